@@ -1,0 +1,4 @@
+pub mod Status
+pub mod Channel
+pub mod Common
+pub mod Realtime
