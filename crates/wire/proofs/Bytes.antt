@@ -10,10 +10,10 @@ use borrow.Author.Tests.{leb-true}
 use Rattle.refusal.specs.declared.Count.the-variants as k
 use Rattle.refusal.specs.Outcome.{Writes, withRoom}
 use Rattle.refusal.proofs.Written.{stored}
-use Rattle.wire.specs.declared.ChannelMessage.{ChannelMessage}
-use Rattle.wire.specs.declared.ChannelMessage.the-variants as m
-use Rattle.wire.specs.declared.CommonStatus.{CommonStatus}
-use Rattle.wire.specs.declared.CommonStatus.the-variants as s
+use Rattle.wire.specs.declared.channel_message.ChannelMessage.{ChannelMessage}
+use Rattle.wire.specs.declared.channel_message.ChannelMessage.the-variants as m
+use Rattle.wire.specs.declared.system_common.CommonStatus.{CommonStatus}
+use Rattle.wire.specs.declared.system_common.CommonStatus.the-variants as s
 use Rattle.wire.specs.Status.{dataLength}
 use Rattle.wire.specs.Channel.{statusNibble, dataBytes}
 use Rattle.wire.specs.Common.{commonStatusByte, common, commonInRange, commonBytes}

@@ -7,18 +7,18 @@ use native.Mathlib.Omega.{arith}
 use lib.Dec.{leb}
 use lib.ListN.{length, getD}
 use borrow.Author.Tests.{leb-true}
-use Rattle.wire.specs.declared.ChannelMessage.{ChannelMessage}
-use Rattle.wire.specs.declared.ChannelMessage.the-variants as m
-use Rattle.wire.specs.declared.MaybeChannelMessage.the-variants as o
-use Rattle.wire.specs.declared.SystemCommon.{SystemCommon}
-use Rattle.wire.specs.declared.SystemCommon.the-variants as y
-use Rattle.wire.specs.declared.MaybeSystemCommon.the-variants as g
-use Rattle.wire.specs.declared.CommonStatus.{CommonStatus}
-use Rattle.wire.specs.declared.CommonStatus.the-variants as s
-use Rattle.wire.specs.declared.MaybeCommonStatus.the-variants as u
-use Rattle.wire.specs.declared.Realtime.{Realtime}
-use Rattle.wire.specs.declared.Realtime.the-variants as t
-use Rattle.wire.specs.declared.MaybeRealtime.the-variants as v
+use Rattle.wire.specs.declared.channel_message.ChannelMessage.{ChannelMessage}
+use Rattle.wire.specs.declared.channel_message.ChannelMessage.the-variants as m
+use Rattle.wire.specs.declared.channel_message.MaybeChannelMessage.the-variants as o
+use Rattle.wire.specs.declared.system_common.SystemCommon.{SystemCommon}
+use Rattle.wire.specs.declared.system_common.SystemCommon.the-variants as y
+use Rattle.wire.specs.declared.system_common.MaybeSystemCommon.the-variants as g
+use Rattle.wire.specs.declared.system_common.CommonStatus.{CommonStatus}
+use Rattle.wire.specs.declared.system_common.CommonStatus.the-variants as s
+use Rattle.wire.specs.declared.system_common.MaybeCommonStatus.the-variants as u
+use Rattle.wire.specs.declared.real_time.Realtime.{Realtime}
+use Rattle.wire.specs.declared.real_time.Realtime.the-variants as t
+use Rattle.wire.specs.declared.real_time.MaybeRealtime.the-variants as v
 use Rattle.wire.specs.Status.{dataLength}
 use Rattle.wire.specs.Channel.{statusNibble, dataBytes, channelMessage, messageInRange}
 use Rattle.wire.specs.Common.{commonStatus, commonStatusByte, commonBytes, commonInRange, commonMessage}

@@ -8,10 +8,10 @@ use Rattle.refusal.specs.Outcome.{Outcome, gives, refusal, unless, withRoom}
 use Rattle.wire.specs.declared.Channel.{Channel}
 use Rattle.wire.specs.declared.ChannelAnswer.{ChannelAnswer}
 use Rattle.wire.specs.declared.ChannelAnswer.the-variants as a
-use Rattle.wire.specs.declared.ChannelMessage.{ChannelMessage}
-use Rattle.wire.specs.declared.ChannelMessage.the-variants as m
-use Rattle.wire.specs.declared.MaybeChannelMessage.{MaybeChannelMessage}
-use Rattle.wire.specs.declared.MaybeChannelMessage.the-variants as o
+use Rattle.wire.specs.declared.channel_message.ChannelMessage.{ChannelMessage}
+use Rattle.wire.specs.declared.channel_message.ChannelMessage.the-variants as m
+use Rattle.wire.specs.declared.channel_message.MaybeChannelMessage.{MaybeChannelMessage}
+use Rattle.wire.specs.declared.channel_message.MaybeChannelMessage.the-variants as o
 
 -- a channel is a byte below 16; 17 with the byte for any other
 abbrev pub channelOf : ℕ → Outcome Channel

@@ -5,14 +5,14 @@ use Prim.Native.Nat.{ℕ, _+_, _*_, _/_, _%_}
 use lib.Dec.{leb, eqb}
 use Rattle.laws.specs.Choice.{pick}
 use Rattle.refusal.specs.Outcome.{Outcome, unless, withRoom}
-use Rattle.wire.specs.declared.SystemCommon.{SystemCommon}
-use Rattle.wire.specs.declared.SystemCommon.the-variants as m
-use Rattle.wire.specs.declared.MaybeSystemCommon.{MaybeSystemCommon}
-use Rattle.wire.specs.declared.MaybeSystemCommon.the-variants as g
-use Rattle.wire.specs.declared.CommonStatus.{CommonStatus}
-use Rattle.wire.specs.declared.CommonStatus.the-variants as s
-use Rattle.wire.specs.declared.MaybeCommonStatus.{MaybeCommonStatus}
-use Rattle.wire.specs.declared.MaybeCommonStatus.the-variants as o
+use Rattle.wire.specs.declared.system_common.SystemCommon.{SystemCommon}
+use Rattle.wire.specs.declared.system_common.SystemCommon.the-variants as m
+use Rattle.wire.specs.declared.system_common.MaybeSystemCommon.{MaybeSystemCommon}
+use Rattle.wire.specs.declared.system_common.MaybeSystemCommon.the-variants as g
+use Rattle.wire.specs.declared.system_common.CommonStatus.{CommonStatus}
+use Rattle.wire.specs.declared.system_common.CommonStatus.the-variants as s
+use Rattle.wire.specs.declared.system_common.MaybeCommonStatus.{MaybeCommonStatus}
+use Rattle.wire.specs.declared.system_common.MaybeCommonStatus.the-variants as o
 
 -- the status bytes of the messages that a record names: F1, F2, F3 and F6
 abbrev pub commonStatus : ℕ → MaybeCommonStatus

@@ -4,10 +4,10 @@ use Prim.Native.Nat.{ℕ}
 use lib.Dec.{eqb}
 use Rattle.laws.specs.Choice.{pick}
 use Rattle.refusal.specs.Outcome.{Outcome, withRoom}
-use Rattle.wire.specs.declared.Realtime.{Realtime}
-use Rattle.wire.specs.declared.Realtime.the-variants as m
-use Rattle.wire.specs.declared.MaybeRealtime.{MaybeRealtime}
-use Rattle.wire.specs.declared.MaybeRealtime.the-variants as o
+use Rattle.wire.specs.declared.real_time.Realtime.{Realtime}
+use Rattle.wire.specs.declared.real_time.Realtime.the-variants as m
+use Rattle.wire.specs.declared.real_time.MaybeRealtime.{MaybeRealtime}
+use Rattle.wire.specs.declared.real_time.MaybeRealtime.the-variants as o
 
 -- MIDI 1.0: the byte of each
 abbrev pub realtimeByte : Realtime → ℕ

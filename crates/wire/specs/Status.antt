@@ -3,8 +3,8 @@ use Prim.Native.Nat.{ℕ}
 use lib.Dec.{ltb, eqb, leb}
 use mathlib.Core.Bool.{Bool, _&&_}
 use Rattle.laws.specs.Choice.{pick}
-use Rattle.wire.specs.declared.MaybeLen.{MaybeLen}
-use Rattle.wire.specs.declared.MaybeLen.the-variants as m
+use Rattle.wire.specs.declared.channel_message.MaybeLen.{MaybeLen}
+use Rattle.wire.specs.declared.channel_message.MaybeLen.the-variants as m
 
 -- note off, note on, key pressure and control change (80 to BF): 2; program change and channel pressure (C0 to DF): 1;
 -- pitch bend (E0 to EF): 2; F1: 1; F2: 2; F3: 1. Every other of the 256 values takes none: a data byte is no status, a frame

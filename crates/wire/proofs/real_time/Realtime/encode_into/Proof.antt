@@ -4,8 +4,8 @@ use mathlib.Core.Path.{ap}
 use Prim.Native.Nat.{ℕ}
 use mathlib.Core.List.{[], _∷_}
 use borrow.Author.Needs.{needs}
-use Rattle.wire.proofs.Realtime.encode_into.Statement.{statement}
-use Rattle.wire.proofs.Realtime.encode_into.Tie as tie
+use Rattle.wire.proofs.real_time.Realtime.encode_into.Statement.{statement}
+use Rattle.wire.proofs.real_time.Realtime.encode_into.Tie as tie
 
 to-status-requires : tie.Need-to-status-requires
 to-status-requires c κs = search needs

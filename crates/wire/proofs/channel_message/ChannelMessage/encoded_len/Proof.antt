@@ -1,7 +1,7 @@
 -- `ChannelMessage::encoded_len` meets its contract: each message's data bytes can be counted.
 use borrow.Author.Needs.{needs}
-use Rattle.wire.proofs.ChannelMessage.encoded_len.Statement.{statement}
-use Rattle.wire.proofs.ChannelMessage.encoded_len.Tie as tie
+use Rattle.wire.proofs.channel_message.ChannelMessage.encoded_len.Statement.{statement}
+use Rattle.wire.proofs.channel_message.ChannelMessage.encoded_len.Tie as tie
 
 enum-told : tie.Need-enum-told
 enum-told c = search needs

@@ -1,10 +1,10 @@
 -- `ChannelMessage::data_len_for` meets its contract: between its two tests it asks `data_len`.
-use Rattle.wire.specs.declared.MaybeLen.the-variants.{Some}
+use Rattle.wire.specs.declared.channel_message.MaybeLen.the-variants.{Some}
 use mathlib.Core.Path.{ap}
 use borrow.Author.Tests.{lt-ltb, le-ltb, le-leb, lt-leb}
 use borrow.Author.Needs.{needs}
-use Rattle.wire.proofs.ChannelMessage.data_len_for.Statement.{statement}
-use Rattle.wire.proofs.ChannelMessage.data_len_for.Tie as tie
+use Rattle.wire.proofs.channel_message.ChannelMessage.data_len_for.Statement.{statement}
+use Rattle.wire.proofs.channel_message.ChannelMessage.data_len_for.Tie as tie
 
 returns : tie.Need-returns
 returns c = rw (lt-leb _ _ (c .if1 .taken))

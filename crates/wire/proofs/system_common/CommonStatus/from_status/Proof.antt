@@ -1,7 +1,7 @@
 -- `CommonStatus::from_status` meets its contract, arm by arm.
 use borrow.Author.Tests.{ne-eqb}
-use Rattle.wire.proofs.CommonStatus.from_status.Statement.{statement}
-use Rattle.wire.proofs.CommonStatus.from_status.Tie as tie
+use Rattle.wire.proofs.system_common.CommonStatus.from_status.Statement.{statement}
+use Rattle.wire.proofs.system_common.CommonStatus.from_status.Tie as tie
 
 returns : tie.Need-returns
 returns c = rw (c .match .keys1)

@@ -1,7 +1,7 @@
 -- `Realtime::from_status` meets its contract, arm by arm.
 use borrow.Author.Tests.{ne-eqb}
-use Rattle.wire.proofs.Realtime.from_status.Statement.{statement}
-use Rattle.wire.proofs.Realtime.from_status.Tie as tie
+use Rattle.wire.proofs.real_time.Realtime.from_status.Statement.{statement}
+use Rattle.wire.proofs.real_time.Realtime.from_status.Tie as tie
 
 returns : tie.Need-returns
 returns c = rw (c .match .keys1)

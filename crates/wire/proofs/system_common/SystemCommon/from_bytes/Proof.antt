@@ -1,8 +1,8 @@
 -- `SystemCommon::from_bytes` meets its contract, arm by arm.
 use borrow.Author.Tests.{ne-eqb}
 use borrow.Author.Needs.{needs}
-use Rattle.wire.proofs.SystemCommon.from_bytes.Statement.{statement}
-use Rattle.wire.proofs.SystemCommon.from_bytes.Tie as tie
+use Rattle.wire.proofs.system_common.SystemCommon.from_bytes.Statement.{statement}
+use Rattle.wire.proofs.system_common.SystemCommon.from_bytes.Tie as tie
 
 bend-requires : tie.Need-bend-requires
 bend-requires c κs = search needs

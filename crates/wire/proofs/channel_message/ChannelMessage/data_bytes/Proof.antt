@@ -1,7 +1,7 @@
 -- `ChannelMessage::data_bytes` meets its contract, message by message.
 use borrow.Author.Needs.{needs}
-use Rattle.wire.proofs.ChannelMessage.data_bytes.Statement.{statement}
-use Rattle.wire.proofs.ChannelMessage.data_bytes.Tie as tie
+use Rattle.wire.proofs.channel_message.ChannelMessage.data_bytes.Statement.{statement}
+use Rattle.wire.proofs.channel_message.ChannelMessage.data_bytes.Tie as tie
 
 enum-known-self : tie.Need-enum-known-self
 enum-known-self c = search needs

@@ -1,7 +1,7 @@
 -- `CommonStatus::carries` meets its contract: its tests are the definition's.
 use borrow.Author.Needs.{needs}
-use Rattle.wire.proofs.CommonStatus.carries.Statement.{statement}
-use Rattle.wire.proofs.CommonStatus.carries.Tie as tie
+use Rattle.wire.proofs.system_common.CommonStatus.carries.Statement.{statement}
+use Rattle.wire.proofs.system_common.CommonStatus.carries.Tie as tie
 
 enum-told : tie.Need-enum-told
 enum-told c = search needs

@@ -1,8 +1,8 @@
 -- `ChannelMessage::from_bytes` meets its contract, arm by arm.
 use borrow.Author.Tests.{ne-eqb}
 use borrow.Author.Needs.{needs}
-use Rattle.wire.proofs.ChannelMessage.from_bytes.Statement.{statement}
-use Rattle.wire.proofs.ChannelMessage.from_bytes.Tie as tie
+use Rattle.wire.proofs.channel_message.ChannelMessage.from_bytes.Statement.{statement}
+use Rattle.wire.proofs.channel_message.ChannelMessage.from_bytes.Tie as tie
 
 bend-requires : tie.Need-bend-requires
 bend-requires c κs = search needs

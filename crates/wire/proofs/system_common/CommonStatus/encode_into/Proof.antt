@@ -12,8 +12,8 @@ use mathlib.Core.List.{[], _∷_}
 use mathlib.Core.Bool.{true}
 use mathlib.Core.Path.{_≡_, sym, _∙_}
 use borrow.Author.Needs.{needs}
-use Rattle.wire.proofs.CommonStatus.encode_into.Statement.{statement}
-use Rattle.wire.proofs.CommonStatus.encode_into.Tie as tie
+use Rattle.wire.proofs.system_common.CommonStatus.encode_into.Statement.{statement}
+use Rattle.wire.proofs.system_common.CommonStatus.encode_into.Tie as tie
 
 carries-requires : tie.Need-carries-requires
 carries-requires c κs = search needs

@@ -1,8 +1,8 @@
 -- `CommonStatus::encoded_len` meets its contract: each status's data bytes can be counted.
 use Rattle.wire.specs.Status.{dataLength}
 use borrow.Author.Needs.{needs}
-use Rattle.wire.proofs.CommonStatus.encoded_len.Statement.{statement}
-use Rattle.wire.proofs.CommonStatus.encoded_len.Tie as tie
+use Rattle.wire.proofs.system_common.CommonStatus.encoded_len.Statement.{statement}
+use Rattle.wire.proofs.system_common.CommonStatus.encoded_len.Tie as tie
 
 enum-told : tie.Need-enum-told
 enum-told c = search needs

@@ -11,8 +11,8 @@ use Prim.Native.Nat.{_+_, _<_}
 use mathlib.Core.List.{[], _∷_}
 use mathlib.Core.Path.{_≡_}
 use borrow.Author.Needs.{needs}
-use Rattle.wire.proofs.ChannelMessage.encode_into.Statement.{statement}
-use Rattle.wire.proofs.ChannelMessage.encode_into.Tie as tie
+use Rattle.wire.proofs.channel_message.ChannelMessage.encode_into.Statement.{statement}
+use Rattle.wire.proofs.channel_message.ChannelMessage.encode_into.Tie as tie
 
 returns : tie.Need-returns
 returns c = let a = c .before .before .args in
