@@ -1,2 +1,3 @@
 pub mod Tabulate
 pub mod Window
+pub mod Zeros

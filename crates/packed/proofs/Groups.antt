@@ -14,7 +14,7 @@ use Rattle.laws.proofs.Window.{window-none, window-more, window-first, window-g
 use Rattle.packed.specs.Packed.{tops, groupByte, packedByte, rawByte, unpackedByte}
 
 -- one bit more below the next power
-bit-more : (high x i : ℕ) → high < 2 ^ i → x < 2 → high + x * 2 ^ i < 2 ^ (i + 1)
+pub bit-more : (high x i : ℕ) → high < 2 ^ i → x < 2 → high + x * 2 ^ i < 2 ^ (i + 1)
 bit-more high zero i h b = rw (add-one i, pow-suc) (omega arith)
 bit-more high (suc zero) i h b = rw (add-one i, pow-suc) (omega arith)
 bit-more high (suc (suc x)) i h b = absurd (omega arith)
