@@ -42,7 +42,8 @@ impl Bank {
     pub fn index(self) -> u8
         ensures { λ r. ⌜ r ≡ self .0 ⌝ }
     {
-        self.0
+        let index = self.0;
+        index
     }
 }
 
@@ -72,7 +73,8 @@ impl ProgramNumber {
     pub fn get(self) -> u8
         ensures { λ r. ⌜ r ≡ self .0 ⌝ }
     {
-        self.0
+        let number = self.0;
+        number
     }
 }
 
@@ -102,7 +104,8 @@ impl PatternNumber {
     pub fn get(self) -> u8
         ensures { λ r. ⌜ r ≡ self .0 ⌝ }
     {
-        self.0
+        let pattern = self.0;
+        pattern
     }
 }
 
@@ -134,7 +137,8 @@ impl ProtocolVersion {
     pub fn get(self) -> u8
         ensures { λ r. ⌜ r ≡ self .0 ⌝ }
     {
-        self.0
+        let byte = self.0;
+        byte
     }
 
     // How many raw bytes a program or edit buffer dump of this version carries.

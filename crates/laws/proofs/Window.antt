@@ -1,7 +1,7 @@
 -- Storing behind a replaced stretch makes it one longer, because the place stored to is the first that was kept.
 use mathlib.Core.Path.{_≡_, ap, ap₂, sym, _∙_}
 use mathlib.Core.List.{List, [], _∷_, _++_, append-assoc, append-nil}
-use Prim.Native.Nat.{ℕ, zero, suc, _+_, _≤_, _<_}
+use Prim.Native.Nat.{ℕ, suc, _+_, _≤_, _<_}
 use native.Mathlib.Numerals.{add-one}
 use native.Mathlib.Nat.{add-zero, zero-add}
 use native.Mathlib.Omega.{arith}
@@ -54,10 +54,10 @@ module _ {A : Type 0} where
       let seam : length front ≡ n = simp (length-append, length-take) (omega arith) in
       let place : p + length xs + length ys ≡ p + length (xs ++ ys) = simp length-append (omega arith) in
       let behind : drop (n + length ys) (front ++ drop (p + length xs) l) ≡ drop (p + length (xs ++ ys)) l =
-          ap (λ (k : ℕ). drop (k + length ys) (front ++ drop (p + length xs) l)) (sym seam)
-          ∙ drop-append-add front (drop (p + length xs) l) (length ys)
-          ∙ drop-drop (length ys) (p + length xs) l
-          ∙ ap (λ (k : ℕ). drop k l) place in
+      ap (λ (k : ℕ). drop (k + length ys) (front ++ drop (p + length xs) l)) (sym seam)
+      ∙ drop-append-add front (drop (p + length xs) l) (length ys)
+      ∙ drop-drop (length ys) (p + length xs) l
+      ∙ ap (λ (k : ℕ). drop k l) place in
       ap₂ (λ (before after : List A). before ++ ys ++ after) (take-at front (drop (p + length xs) l) n seam) behind
       ∙ ap (λ (all : List A). all ++ drop (p + length (xs ++ ys)) l) (append-assoc (take p l) xs ys)
 

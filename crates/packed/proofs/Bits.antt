@@ -1,6 +1,6 @@
 -- The masks and shifts of packing are sums, because each bit is put where nothing stands yet.
-use mathlib.Core.Path.{_≡_, refl, ap, ap₂, _∙_}
-use Prim.Native.Nat.{ℕ, _+_, _*_, _-_, _/_, _%_, _^_, _≤_, _<_}
+use mathlib.Core.Path.{_≡_}
+use Prim.Native.Nat.{ℕ, _+_, _*_, _-_, _/_, _%_, _^_, _<_}
 use native.Mathlib.Nat.{add-comm}
 use native.Mathlib.Omega.{arith}
 use lib.Bits.{bitAnd, bitOr, and-mask, or-shifted-r}

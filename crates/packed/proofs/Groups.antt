@@ -1,7 +1,7 @@
 -- Group by group the loops fill the buffer with the bytes of the definition, because place 8g + r of a packed run lies in group g
 -- at r, and place 7g + i of the raw bytes in group g at i.
 use mathlib.Core.Path.{_≡_, refl, ap, ap₂, subst₂, sym, _∙_}
-use mathlib.Core.List.{List, [], _∷_, _++_}
+use mathlib.Core.List.{List, _∷_}
 use Prim.Native.Nat.{ℕ, zero, suc, _+_, _*_, _-_, _/_, _%_, _^_, _≤_, _<_}
 use native.Mathlib.Nat.{pow-suc, mul-zero, mul-suc}
 use native.Mathlib.Numerals.{add-one}
@@ -10,7 +10,7 @@ use lib.ListN.{length, getD, set, length-set}
 use Rattle.laws.specs.Tabulate.{tab}
 use Rattle.laws.specs.Window.{window}
 use Rattle.laws.proofs.Tabulate.{length-tab, tab-more}
-use Rattle.laws.proofs.Window.{window-none, window-more, window-first, window-group, length-window}
+use Rattle.laws.proofs.Window.{window-none, window-more, window-first, window-group}
 use Rattle.packed.specs.Packed.{tops, groupByte, packedByte, rawByte, unpackedByte}
 
 -- one bit more below the next power
@@ -42,7 +42,7 @@ packing-next raw from out₀ at out high i b p room h e byte =
       bits = bits-more;
       small = bit-more high (b / 128) i (p .small) (omega arith);
       filled = filled-more;
-      same = length-set out (at + 1 + i) (b % 128) ∙ p .same
+      same = length-set out (at + 1 + i) (b % 128) ∙ p .same;
     }
   where
     low : ℕ → ℕ
@@ -92,13 +92,13 @@ unpacking-more run at count out₀ to out i b u room h e =
     filled-more =
         ap₂ (λ (l : List ℕ) (x : ℕ). set l (to + i) x) (u .filled) e
         ∙ window-more out₀ to (tab (rawByte run at) i) (rawByte run at i) (to + i)
-          (ap (λ (n : ℕ). to + n) (sym (length-tab (rawByte run at) i))) (omega arith)
+        (ap (λ (n : ℕ). to + n) (sym (length-tab (rawByte run at) i))) (omega arith)
         ∙ ap (λ (xs : List ℕ). window out₀ to xs) (sym (tab-more (rawByte run at) i))
 
 -- a further group of a packed run
 pub packed-more : (raw out₀ : List ℕ) (g : ℕ) → 8 * g + 8 ≤ length out₀
     → window (window out₀ 0 (tab (packedByte raw) (8 * g))) (8 * g) (tab (groupByte raw (7 * g)) 8)
-      ≡ window out₀ 0 (tab (packedByte raw) (8 * g + 8))
+    ≡ window out₀ 0 (tab (packedByte raw) (8 * g + 8))
 packed-more raw out₀ g room = window-group (packedByte raw) (groupByte raw (7 * g)) out₀ (8 * g) 8 agree room
   where
     agree : (r : ℕ) → r < 8 → packedByte raw (8 * g + r) ≡ groupByte raw (7 * g) r
@@ -110,7 +110,7 @@ packed-more raw out₀ g room = window-group (packedByte raw) (groupByte raw (7 
 -- a further group of raw bytes, n of them
 pub unpacked-more : (run out₀ : List ℕ) (g n : ℕ) → n ≤ 7 → 7 * g + n ≤ length out₀
     → window (window out₀ 0 (tab (unpackedByte run) (7 * g))) (7 * g) (tab (rawByte run (8 * g)) n)
-      ≡ window out₀ 0 (tab (unpackedByte run) (7 * g + n))
+    ≡ window out₀ 0 (tab (unpackedByte run) (7 * g + n))
 unpacked-more run out₀ g n most room =
     window-group (unpackedByte run) (rawByte run (8 * g)) out₀ (7 * g) n agree room
   where
@@ -140,7 +140,7 @@ filled-more f size groups out₀ out later g h k b l w e =
       filled =
           w ∙ ap (λ (o : List ℕ). window o (size * g) (tab h size)) (k .filled) ∙ e
           ∙ ap (λ (n : ℕ). window out₀ 0 (tab f n)) (sym (mul-suc size g) ∙ ap (λ (n : ℕ). size * n) (sym (add-one g)));
-      same = l ∙ k .same
+      same = l ∙ k .same;
     }
 
 -- all groups are written

@@ -48,5 +48,5 @@ packed-given l n e =
 pub unpacked-given : (l n : ℕ) → gives n ≡ unpackedLengthOf l → (n ≡ unpackedLength l) × (not (eqb (l % 8) 1) ≡ true)
 unpacked-given l n e =
     let given : gives (unpackedLength l) ≡ gives n =
-        passed-on (not (eqb (l % 8) 1)) 13 (l ∷ []) (gives (unpackedLength l)) n (sym e) in
+    passed-on (not (eqb (l % 8) 1)) 13 (l ∷ []) (gives (unpackedLength l)) n (sym e) in
     (cc, passed (not (eqb (l % 8) 1)) 13 (l ∷ []) (gives (unpackedLength l)) n (sym e))

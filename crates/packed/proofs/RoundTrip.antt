@@ -3,7 +3,7 @@
 use mathlib.Core.Path.{_≡_, refl, ap, ap₂, sym, _∙_}
 use mathlib.Core.Bool.{Bool, true, false}
 use mathlib.Core.List.{List, [], _∷_, _++_}
-use Prim.Native.Nat.{ℕ, zero, suc, _+_, _*_, _-_, _/_, _%_, _^_, _≤_, _<_}
+use Prim.Native.Nat.{ℕ, zero, suc, _+_, _*_, _-_, _/_, _%_, _^_, _<_}
 use native.Mathlib.Numerals.{add-one}
 use native.Mathlib.Omega.{arith}
 use lib.Dec.{eqb}
@@ -14,7 +14,7 @@ use Rattle.laws.specs.Choice.{pick}
 use Rattle.laws.specs.Tabulate.{tab}
 use Rattle.laws.proofs.Tabulate.{length-tab, getD-tab, tab-same}
 use Rattle.laws.proofs.Zeros.{getD-padded}
-use Rattle.packed.specs.Packed.{tops, groupByte, packedByte, packed, packedLength, rawByte, unpackedByte, unpacked, unpackedLength}
+use Rattle.packed.specs.Packed.{tops, groupByte, packedByte, packed, packedLength, unpackedByte, unpacked, unpackedLength}
 use Rattle.packed.proofs.Groups.{bit-more}
 use Rattle.packed.proofs.Lengths.{packed-then-unpacked}
 

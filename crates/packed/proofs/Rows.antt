@@ -1,8 +1,8 @@
 -- Marked rows (a) to (e) of document 01, computed from the definitions.
 use mathlib.Core.Path.{_≡_, refl}
 use mathlib.Core.List.{[], _∷_}
-use Rattle.refusal.specs.Outcome.{gives, refused}
-use Rattle.packed.specs.Packed.{tops, packed, unpacked, packWrite, unpackWrite, unpackedLengthOf}
+use Rattle.refusal.specs.Outcome.{refused}
+use Rattle.packed.specs.Packed.{tops, packed, unpacked, unpackedLengthOf}
 
 -- (a) nothing gives nothing
 pub row-a : packed [] ≡ []

@@ -12,6 +12,7 @@ use refusal::Refusal;
 
 // Raw bytes in a group, and the bytes that it takes on the wire.
 pub const RAW_GROUP: usize = 7;
+
 pub const PACKED_GROUP: usize = 8;
 
 // How many bytes pack_into writes for so many raw bytes; 22 where that is more than a usize holds.
@@ -156,7 +157,13 @@ pub fn unpack_into(run: &[u8], out: &mut [u8]) -> Count
             let whole = run.len() / PACKED_GROUP;
             unpack_groups(run, whole, out);
             if RAW_GROUP * whole < needed {
-                unpack_group(run, PACKED_GROUP * whole, needed - RAW_GROUP * whole, out, RAW_GROUP * whole);
+                unpack_group(
+                    run,
+                    PACKED_GROUP * whole,
+                    needed - RAW_GROUP * whole,
+                    out,
+                    RAW_GROUP * whole,
+                );
             }
             Count::Ok(needed)
         }

@@ -1,7 +1,7 @@
 -- What a writer wrote from in-range values reads back as the same message, because nothing is masked away and the status byte's
 -- high four bits tell the kind.
 use mathlib.Core.Path.{_≡_, refl, ap, ap₂}
-use mathlib.Core.Bool.{Bool, true, false, _&&_}
+use mathlib.Core.Bool.{true, _&&_}
 use Prim.Native.Nat.{ℕ, _+_, _*_, _/_, _%_, _≤_, _<_}
 use native.Mathlib.Omega.{arith}
 use lib.Dec.{leb}
@@ -19,20 +19,17 @@ use Rattle.wire.specs.declared.system_common.MaybeCommonStatus.the-varia
 use Rattle.wire.specs.declared.real_time.Realtime.{Realtime}
 use Rattle.wire.specs.declared.real_time.Realtime.the-variants as t
 use Rattle.wire.specs.declared.real_time.MaybeRealtime.the-variants as v
+use Rattle.laws.proofs.Both.{both-left, both-right}
 use Rattle.wire.specs.Status.{dataLength}
 use Rattle.wire.specs.Channel.{statusNibble, dataBytes, channelMessage, messageInRange}
 use Rattle.wire.specs.Common.{commonStatus, commonStatusByte, commonBytes, commonInRange, commonMessage}
 use Rattle.wire.specs.Realtime.{realtimeByte, realtimeOf}
 use Rattle.wire.proofs.DataLength.{two-low, one-middle, two-high}
 
--- both of two tests
+-- two data bytes in range
 pub both-small : (a b : ℕ) → (leb a 127 && leb b 127) ≡ true → (a ≤ 127) × (b ≤ 127)
-both-small a b h = go (leb a 127) (leb b 127) (leb-true a 127) (leb-true b 127) h
-  where
-    go : (p q : Bool) → (p ≡ true → a ≤ 127) → (q ≡ true → b ≤ 127) → (p && q) ≡ true → (a ≤ 127) × (b ≤ 127)
-    go true true f g h = (f refl, g refl)
-    go true false f g h = (f refl, g h)
-    go false q f g h = let z : _≡_ {A = ℕ} 0 1 = cc in (omega arith, omega arith)
+both-small a b h =
+    (leb-true a 127 (both-left (leb a 127) (leb b 127) h), leb-true b 127 (both-right (leb a 127) (leb b 127) h))
 
 -- the kind of a status byte: channel c of kind k
 kind : (k c : ℕ) → c < 16 → (k * 16 + c) / 16 ≡ k

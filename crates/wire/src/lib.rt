@@ -55,7 +55,8 @@ impl Channel {
     pub fn index(self) -> u8
         ensures { λ r. ⌜ r ≡ self .0 ⌝ }
     {
-        self.0
+        let channel = self.0;
+        channel
     }
 
     // The number on the front panel, 1 to 16.

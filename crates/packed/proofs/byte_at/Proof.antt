@@ -4,8 +4,6 @@ use mathlib.Core.Path.{sym}
 use borrow.Author.Needs.{needs}
 use Rattle.packed.proofs.byte_at.Statement.{statement}
 use Rattle.packed.proofs.byte_at.Tie as tie
-use Rattle.packed.proofs.byte_at.Reads as reads
-use Rattle.packed.proofs.byte_at.Lts as lts
 
 shared-slice-read-result : tie.Need-shared-slice-read-result
 shared-slice-read-result c = search needs

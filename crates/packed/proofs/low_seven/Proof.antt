@@ -2,8 +2,6 @@
 use Rattle.packed.proofs.Bits.{seven-bits}
 use Rattle.packed.proofs.low_seven.Statement.{statement}
 use Rattle.packed.proofs.low_seven.Tie as tie
-use Rattle.packed.proofs.low_seven.Reads as reads
-use Rattle.packed.proofs.low_seven.Lts as lts
 
 returns : tie.Need-returns
 returns c = seven-bits (c .args .byte)

@@ -1,15 +1,10 @@
 -- `pack_groups` meets its contract: after g turns the bytes of g groups stand at the front.
 use Rattle.packed.proofs.Groups.{Filled, filled-none, filled-more, filled-all, packed-more}
 use Rattle.packed.specs.Packed.{packedByte, groupByte}
-use lib.ListN.{length}
 use native.Mathlib.Omega.{arith}
 use Prim.Native.Nat.{_*_, _-_}
-use mathlib.Core.Path.{_∙_}
 use Rattle.packed.proofs.pack_groups.Statement.{statement}
 use Rattle.packed.proofs.pack_groups.Tie as tie
-use Rattle.packed.proofs.pack_groups.Reads as reads
-use Rattle.packed.proofs.pack_groups.Lts as lts
-use Rattle.packed.proofs.pack_group.Reads as pack-group-reads
 
 abbrev Inv-loop : tie.InvT-loop
 Inv-loop raw groups out₀ g₀ out g = Filled (packedByte raw) 8 groups out₀ out g

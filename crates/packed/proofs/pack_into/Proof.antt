@@ -13,10 +13,6 @@ use mathlib.Core.Path.{_≡_, sym, _∙_, ap}
 use borrow.Author.Needs.{needs}
 use Rattle.packed.proofs.pack_into.Statement.{statement}
 use Rattle.packed.proofs.pack_into.Tie as tie
-use Rattle.packed.proofs.pack_into.Reads as reads
-use Rattle.packed.proofs.pack_into.Lts as lts
-use Rattle.packed.proofs.pack_groups.Reads as pack-groups-reads
-use Rattle.packed.proofs.packed_len.Reads as packed-len-reads
 
 packed-len-requires : tie.Need-packed-len-requires
 packed-len-requires c κs = search needs
@@ -32,7 +28,7 @@ returns c = let a = c .before .before .before .before .before .before .before .a
     let n = c .before .before .needed .given .0 .0 in
     let size = length (a .raw .now) in
     let e : gives n ≡ packedLengthOf size =
-        ap counted (sym (c .before .before .needed .given .1)) ∙ c .before .before .before .before .packed-len .ensures in
+    ap counted (sym (c .before .before .needed .given .1)) ∙ c .before .before .before .before .packed-len .ensures in
     counted-first _ _ n _ _ _ e
     (no-room (packed (a .raw .now)) (a .out .now) n (length-tab (packedByte (a .raw .now)) (packedLength size) ∙ sym (packed-given size n e)) (c .if1 .taken))
 
@@ -40,7 +36,7 @@ pack-groups-requires : tie.Need-pack-groups-requires
 pack-groups-requires c κs = let n = c .before .before .before .needed .given .0 .0 in
     let size = length (c .before .before .before .before .before .before .before .before .args .raw .now) in
     let e : gives n ≡ packedLengthOf size =
-        ap counted (sym (c .before .before .before .needed .given .1)) ∙ c .before .before .before .before .before .packed-len .ensures in
+    ap counted (sym (c .before .before .before .needed .given .1)) ∙ c .before .before .before .before .before .packed-len .ensures in
     omega (arith, packed-given size n e, c .before .if1 .left)
 
 returns-2 : tie.Need-returns-2
@@ -55,7 +51,7 @@ returns-3 c = let a = c .before .before .before .before .before .before .before 
     let n = k .0 .0 in
     let size = length (a .raw .now) in
     let e : gives n ≡ packedLengthOf size =
-        ap counted (sym (k .1)) ∙ c .before .before .before .before .before .before .before .before .packed-len .ensures in
+    ap counted (sym (k .1)) ∙ c .before .before .before .before .before .before .before .before .packed-len .ensures in
     let l : n ≡ packedLength size = packed-given size n e in
     let groups : 8 * (n / 8) ≡ n = omega (arith, l) in
     let p = c .before .before .pack-groups in

@@ -3,8 +3,6 @@ use Rattle.packed.proofs.Lengths.{packed-length-fits, packed-length-too
 use borrow.Author.Needs.{needs}
 use Rattle.packed.proofs.packed_len.Statement.{statement}
 use Rattle.packed.proofs.packed_len.Tie as tie
-use Rattle.packed.proofs.packed_len.Reads as reads
-use Rattle.packed.proofs.packed_len.Lts as lts
 
 add-groups : tie.Need-add-groups
 add-groups c = search needs

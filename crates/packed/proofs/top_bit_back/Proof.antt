@@ -3,8 +3,6 @@ use Rattle.packed.proofs.Bits.{top-bit-out}
 use borrow.Author.Needs.{needs}
 use Rattle.packed.proofs.top_bit_back.Statement.{statement}
 use Rattle.packed.proofs.top_bit_back.Tie as tie
-use Rattle.packed.proofs.top_bit_back.Reads as reads
-use Rattle.packed.proofs.top_bit_back.Lts as lts
 
 cast-result : tie.Need-cast-result
 cast-result c = search needs

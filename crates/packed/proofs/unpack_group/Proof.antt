@@ -5,15 +5,11 @@ use Rattle.laws.specs.Tabulate.{tab}
 use Prim.Native.Nat.{ℕ}
 use mathlib.Core.Path.{_≡_, _∙_, ap}
 use Rattle.packed.proofs.Groups.{Unpacking, unpacking-none, unpacking-more}
-use borrow.Author.Needs.{needs}
 use native.Mathlib.Omega.{arith}
 use Prim.Native.Nat.{_-_}
 use mathlib.Core.Path.{_∙_}
 use Rattle.packed.proofs.unpack_group.Statement.{statement}
 use Rattle.packed.proofs.unpack_group.Tie as tie
-use Rattle.packed.proofs.unpack_group.Reads as reads
-use Rattle.packed.proofs.unpack_group.Lts as lts
-use Rattle.packed.proofs.top_bit_back.Reads as top-bit-back-reads
 
 abbrev Inv-loop : tie.InvT-loop
 Inv-loop run at count out₀ to high i₀ out i = Unpacking run at count out₀ to out i

@@ -10,16 +10,11 @@ use Rattle.laws.specs.Window.{window}
 use Rattle.laws.specs.Tabulate.{tab}
 use lib.ListN.{length}
 use native.Mathlib.Omega.{arith}
-use Prim.Native.Nat.{ℕ, _+_, _*_, _-_, _/_, _%_}
+use Prim.Native.Nat.{ℕ, _+_, _*_, _-_, _/_}
 use mathlib.Core.Path.{_≡_, sym, _∙_, ap}
 use borrow.Author.Needs.{needs}
 use Rattle.packed.proofs.unpack_into.Statement.{statement}
 use Rattle.packed.proofs.unpack_into.Tie as tie
-use Rattle.packed.proofs.unpack_into.Reads as reads
-use Rattle.packed.proofs.unpack_into.Lts as lts
-use Rattle.packed.proofs.unpack_group.Reads as unpack-group-reads
-use Rattle.packed.proofs.unpack_groups.Reads as unpack-groups-reads
-use Rattle.packed.proofs.unpacked_len.Reads as unpacked-len-reads
 
 unpacked-len-requires : tie.Need-unpacked-len-requires
 unpacked-len-requires c κs = search needs
@@ -35,7 +30,7 @@ returns c = let a = c .before .before .before .before .before .before .before .a
     let n = c .before .before .needed .given .0 .0 in
     let size = length (a .run .now) in
     let e : gives n ≡ unpackedLengthOf size =
-        ap counted (sym (c .before .before .needed .given .1)) ∙ c .before .before .before .before .unpacked-len .ensures in
+    ap counted (sym (c .before .before .needed .given .1)) ∙ c .before .before .before .before .unpacked-len .ensures in
     counted-first _ _ n _ _ _ e
     (no-room (unpacked (a .run .now)) (a .out .now) n (length-tab (unpackedByte (a .run .now)) (unpackedLength size) ∙ sym (unpacked-given size n e .0)) (c .if1 .taken))
 
@@ -43,7 +38,7 @@ unpack-groups-requires : tie.Need-unpack-groups-requires
 unpack-groups-requires c κs = let n = c .before .before .before .needed .given .0 .0 in
     let size = length (c .before .before .before .before .before .before .before .before .args .run .now) in
     let e : gives n ≡ unpackedLengthOf size =
-        ap counted (sym (c .before .before .before .needed .given .1)) ∙ c .before .before .before .before .before .unpacked-len .ensures in
+    ap counted (sym (c .before .before .before .needed .given .1)) ∙ c .before .before .before .before .before .unpacked-len .ensures in
     omega (arith, unpacked-given size n e .0, c .before .if1 .left)
 
 mul-if2 : tie.Need-mul-if2
@@ -66,7 +61,7 @@ unpack-group-requires c κs = let k = c .before .before .before .before .before 
     let n = k .0 .0 in
     let size = length (c .before .before .before .before .before .before .before .before .before .before .before .before .before .args .run .now) in
     let e : gives n ≡ unpackedLengthOf size =
-        ap counted (sym (k .1)) ∙ c .before .before .before .before .before .before .before .before .before .before .unpacked-len .ensures in
+    ap counted (sym (k .1)) ∙ c .before .before .before .before .before .before .before .before .before .before .unpacked-len .ensures in
     omega (arith, unpacked-given size n e .0, c .before .before .before .before .before .before .if1 .left, c .before .before .before .before .unpack-groups .kept .1 .1 .0)
 
 returns-2 : tie.Need-returns-2
@@ -83,7 +78,7 @@ returns-3 c = let a = c .before .before .before .before .before .before .before 
     let f = unpackedByte (a .run .now) in
     let g = size / 8 in
     let e : gives n ≡ unpackedLengthOf size =
-        ap counted (sym (k .1)) ∙ c .before .before .before .before .before .before .before .before .before .before .before .before .before .unpacked-len .ensures in
+    ap counted (sym (k .1)) ∙ c .before .before .before .before .before .before .before .before .before .before .before .before .before .unpacked-len .ensures in
     let l : n ≡ unpackedLength size = unpacked-given size n e .0 in
     let room = c .before .before .before .before .before .before .before .before .before .if1 .left in
     let sum : 7 * g + (n - 7 * g) ≡ n = omega (arith, l, c .before .before .before .before .if2 .taken) in
@@ -105,7 +100,7 @@ returns-4 c = let a = c .before .before .before .before .before .before .before 
     let size = length (a .run .now) in
     let f = unpackedByte (a .run .now) in
     let e : gives n ≡ unpackedLengthOf size =
-        ap counted (sym (k .1)) ∙ c .before .before .before .before .before .before .before .before .before .unpacked-len .ensures in
+    ap counted (sym (k .1)) ∙ c .before .before .before .before .before .before .before .before .before .unpacked-len .ensures in
     let l : n ≡ unpackedLength size = unpacked-given size n e .0 in
     let all : 7 * (size / 8) ≡ n = omega (arith, l, c .if2 .left) in
     let w = c .before .before .before .unpack-groups in

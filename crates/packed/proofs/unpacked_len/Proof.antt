@@ -4,8 +4,6 @@ use native.Mathlib.Omega.{arith}
 use borrow.Author.Needs.{needs}
 use Rattle.packed.proofs.unpacked_len.Statement.{statement}
 use Rattle.packed.proofs.unpacked_len.Tie as tie
-use Rattle.packed.proofs.unpacked_len.Reads as reads
-use Rattle.packed.proofs.unpacked_len.Lts as lts
 
 returns : tie.Need-returns
 returns c = unpacked-length-none (c .before .args .packed-len) (c .if1 .taken)

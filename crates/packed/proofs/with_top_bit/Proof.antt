@@ -4,8 +4,6 @@ use Rattle.packed.proofs.Bits.{top-bit-in}
 use borrow.Author.Needs.{needs}
 use Rattle.packed.proofs.with_top_bit.Statement.{statement}
 use Rattle.packed.proofs.with_top_bit.Tie as tie
-use Rattle.packed.proofs.with_top_bit.Reads as reads
-use Rattle.packed.proofs.with_top_bit.Lts as lts
 
 cast-result : tie.Need-cast-result
 cast-result c = search needs

@@ -1,0 +1,150 @@
+-- The table's rule, computed over all of its rows: codes rise, each row holds its command's code and payload lengths, and no other
+-- byte is a code.
+use mathlib.Core.Path.{_≡_, refl, ap, sym, _∙_}
+use mathlib.Core.Bool.{Bool, true, false}
+use mathlib.Core.List.{List, [], _∷_, map}
+use Prim.Native.Nat.{ℕ, suc, _<_}
+use native.Mathlib.Omega.{arith}
+use lib.Dec.{eqb}
+use lib.ListN.{getD}
+use borrow.Author.Tests.{eqb-true, ne-eqb}
+use Rattle.laws.specs.Choice.{pick}
+use Rattle.laws.proofs.Rising.{rises}
+use Rattle.refusal.specs.Outcome.{gives, refused}
+use Rattle.refusal.proofs.Given.{given-not-refused}
+use Rattle.command.specs.declared.Command.{Command}
+use Rattle.command.specs.declared.Command.the-variants as k
+use Rattle.command.specs.declared.Row.{Row}
+use Rattle.command.specs.Command.{codeOf, commands, among, commandOf, placeOf}
+use Rattle.command.specs.Payload.{payloadOf, tableLength, rawLengthFor, rowOf, table}
+
+-- each command's row stands at its place
+row-there : (k : Command) (d : Row) → getD table (placeOf k) d ≡ rowOf k
+row-there k.ControlAppNotifyRequest d = refl
+row-there k.ProgramDumpRequest d = refl
+row-there k.ProgramDumpResponse d = refl
+row-there k.EditBufferDumpRequest d = refl
+row-there k.EditBufferDumpResponse d = refl
+row-there k.GlobalParameterDumpRequest d = refl
+row-there k.GlobalParameterDumpResponse d = refl
+row-there k.SingleUserPatternDumpRequest d = refl
+row-there k.UserPatternDumpResponse d = refl
+row-there k.ProgramBankDumpRequest d = refl
+row-there k.BankProgramNamesDumpRequest d = refl
+row-there k.BankProgramNamesDumpResponse d = refl
+row-there k.SingleProgramNameDumpRequest d = refl
+row-there k.SingleProgramNameDumpResponse d = refl
+row-there k.EditBufferPatternDumpRequest d = refl
+row-there k.ControlAppNotifyResponse d = refl
+row-there k.CalibrationDataDumpRequest d = refl
+row-there k.CalibrationDataDumpResponse d = refl
+row-there k.ChordMemoryDumpRequest d = refl
+row-there k.ChordMemoryDumpResponse d = refl
+row-there k.PolyChordMemoryDumpRequest d = refl
+row-there k.PolyChordMemoryDumpResponse d = refl
+
+pub row-at-place : (k : Command) (n : ℕ) (d : Row) → n ≡ placeOf k → getD table n d ≡ rowOf k
+row-at-place k n d e = ap (λ (m : ℕ). getD table m d) e ∙ row-there k d
+
+pub place-in-table : (k : Command) → placeOf k < 22
+place-in-table k.ControlAppNotifyRequest = omega arith
+place-in-table k.ProgramDumpRequest = omega arith
+place-in-table k.ProgramDumpResponse = omega arith
+place-in-table k.EditBufferDumpRequest = omega arith
+place-in-table k.EditBufferDumpResponse = omega arith
+place-in-table k.GlobalParameterDumpRequest = omega arith
+place-in-table k.GlobalParameterDumpResponse = omega arith
+place-in-table k.SingleUserPatternDumpRequest = omega arith
+place-in-table k.UserPatternDumpResponse = omega arith
+place-in-table k.ProgramBankDumpRequest = omega arith
+place-in-table k.BankProgramNamesDumpRequest = omega arith
+place-in-table k.BankProgramNamesDumpResponse = omega arith
+place-in-table k.SingleProgramNameDumpRequest = omega arith
+place-in-table k.SingleProgramNameDumpResponse = omega arith
+place-in-table k.EditBufferPatternDumpRequest = omega arith
+place-in-table k.ControlAppNotifyResponse = omega arith
+place-in-table k.CalibrationDataDumpRequest = omega arith
+place-in-table k.CalibrationDataDumpResponse = omega arith
+place-in-table k.ChordMemoryDumpRequest = omega arith
+place-in-table k.ChordMemoryDumpResponse = omega arith
+place-in-table k.PolyChordMemoryDumpRequest = omega arith
+place-in-table k.PolyChordMemoryDumpResponse = omega arith
+
+-- codes rise from row to row
+pub codes-rise : (i : ℕ) → suc i < 22 → getD (map codeOf commands) i 0 < getD (map codeOf commands) (suc i) 0
+codes-rise i h = rises (map codeOf commands) i refl h
+
+-- each command is read from its code
+pub code-reads-back : (k : Command) → commandOf (codeOf k) ≡ gives k
+code-reads-back k.ControlAppNotifyRequest = refl
+code-reads-back k.ProgramDumpRequest = refl
+code-reads-back k.ProgramDumpResponse = refl
+code-reads-back k.EditBufferDumpRequest = refl
+code-reads-back k.EditBufferDumpResponse = refl
+code-reads-back k.GlobalParameterDumpRequest = refl
+code-reads-back k.GlobalParameterDumpResponse = refl
+code-reads-back k.SingleUserPatternDumpRequest = refl
+code-reads-back k.UserPatternDumpResponse = refl
+code-reads-back k.ProgramBankDumpRequest = refl
+code-reads-back k.BankProgramNamesDumpRequest = refl
+code-reads-back k.BankProgramNamesDumpResponse = refl
+code-reads-back k.SingleProgramNameDumpRequest = refl
+code-reads-back k.SingleProgramNameDumpResponse = refl
+code-reads-back k.EditBufferPatternDumpRequest = refl
+code-reads-back k.ControlAppNotifyResponse = refl
+code-reads-back k.CalibrationDataDumpRequest = refl
+code-reads-back k.CalibrationDataDumpResponse = refl
+code-reads-back k.ChordMemoryDumpRequest = refl
+code-reads-back k.ChordMemoryDumpResponse = refl
+code-reads-back k.PolyChordMemoryDumpRequest = refl
+code-reads-back k.PolyChordMemoryDumpResponse = refl
+
+-- and a command that was read has the code that was read
+pub read-code : (ks : List Command) (b : ℕ) (k : Command) → among ks b ≡ gives k → codeOf k ≡ b
+read-code [] b k e = absurd (given-not-refused k 6 (b ∷ []) e)
+read-code (j ∷ js) b k e = go (eqb b (codeOf j)) refl (read-code js b k) e
+  where
+    go : (t : Bool) → eqb b (codeOf j) ≡ t → (among js b ≡ gives k → codeOf k ≡ b) → pick t (gives j) (among js b) ≡ gives k → codeOf k ≡ b
+    go true h rest g =
+        let same : j ≡ k = cc in
+        ap codeOf (sym same) ∙ sym (eqb-true b (codeOf j) h)
+    go false h rest g = rest g
+
+-- no other byte is a code: 6 with the byte
+pub no-other-code : (b : ℕ) → ((k : Command) → codeOf k ≡ b → ⊥) → commandOf b ≡ refused 6 (b ∷ [])
+no-other-code b none = go commands
+  where
+    go : (ks : List Command) → among ks b ≡ refused 6 (b ∷ [])
+    go [] = refl
+    go (j ∷ js) = rw (ne-eqb b (codeOf j) (λ e. none j (sym e))) (go js)
+
+-- two commands with one code are one
+pub same-code : (j k : Command) → codeOf j ≡ codeOf k → j ≡ k
+same-code j k e =
+    let read : gives j ≡ gives k = sym (code-reads-back j) ∙ ap commandOf e ∙ code-reads-back k in
+    cc
+
+-- the version decides for programs and the edit buffer, the table for every other command
+pub table-decides : (k : Command) (v : ℕ) → (codeOf k ≡ 0x02 → ⊥) → (codeOf k ≡ 0x04 → ⊥) → tableLength (payloadOf k .run) ≡ rawLengthFor k v
+table-decides k.ControlAppNotifyRequest v p e = refl
+table-decides k.ProgramDumpRequest v p e = refl
+table-decides k.ProgramDumpResponse v p e = absurd (p refl)
+table-decides k.EditBufferDumpRequest v p e = refl
+table-decides k.EditBufferDumpResponse v p e = absurd (e refl)
+table-decides k.GlobalParameterDumpRequest v p e = refl
+table-decides k.GlobalParameterDumpResponse v p e = refl
+table-decides k.SingleUserPatternDumpRequest v p e = refl
+table-decides k.UserPatternDumpResponse v p e = refl
+table-decides k.ProgramBankDumpRequest v p e = refl
+table-decides k.BankProgramNamesDumpRequest v p e = refl
+table-decides k.BankProgramNamesDumpResponse v p e = refl
+table-decides k.SingleProgramNameDumpRequest v p e = refl
+table-decides k.SingleProgramNameDumpResponse v p e = refl
+table-decides k.EditBufferPatternDumpRequest v p e = refl
+table-decides k.ControlAppNotifyResponse v p e = refl
+table-decides k.CalibrationDataDumpRequest v p e = refl
+table-decides k.CalibrationDataDumpResponse v p e = refl
+table-decides k.ChordMemoryDumpRequest v p e = refl
+table-decides k.ChordMemoryDumpResponse v p e = refl
+table-decides k.PolyChordMemoryDumpRequest v p e = refl
+table-decides k.PolyChordMemoryDumpResponse v p e = refl
