@@ -1,0 +1,3 @@
+pub mod Limit
+pub mod Classes
+pub mod SoundKept
