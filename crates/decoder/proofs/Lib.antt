@@ -1,3 +1,4 @@
 pub mod Limit
 pub mod Classes
 pub mod SoundKept
+pub mod Steps

@@ -1,0 +1,3 @@
+pub mod Ahead
+pub mod Matches
+pub mod HistoryIsStep
