@@ -17,7 +17,7 @@ use Rattle.wire.specs.Realtime.{realtimeOf}
 use Rattle.wire.specs.declared.system_common.SystemCommon.the-variants as y
 use Rattle.wire.specs.declared.real_time.MaybeRealtime.{MaybeRealtime}
 use Rattle.wire.specs.declared.real_time.MaybeRealtime.the-variants as t
-use Rattle.wire.proofs.DataLength.{none-of-start, none-above}
+use Rattle.wire.proofs.DataLength.{none-of-data, none-of-start, none-above}
 use Rattle.decoder.specs.declared.RunningStatus.the-variants as s
 use Rattle.decoder.specs.declared.Decoder.{Decoder}
 use Rattle.decoder.specs.declared.Class.{Class}
@@ -34,7 +34,8 @@ use Rattle.decoder.proofs.Classes.{Range, range-of}
 use Rattle.decoder.proofs.SoundKept.{held-takes-data}
 use Rattle.decoder.proofs.Steps.{data-fits, data-over, data-plain, end-fits, end-over, end-plain}
 use Rattle.damage.specs.Open.{isOpen, lastStatus, dataSince}
-use Rattle.damage.specs.History.{Told, interruption, heardRealtime, heardData, heardIn, heard}
+use Rattle.damage.specs.History.{Told, interruption, heardRealtime, heardData, heardIn, heard, meaning}
+use Rattle.damage.specs.Calls.{singly}
 use Rattle.damage.proofs.Ahead.{nextStatus, nextData, ahead}
 use Rattle.damage.proofs.Matches.{held, pending, InFrame, Outside, Matches, nothing-pending, data-next}
 
@@ -211,3 +212,27 @@ module _ (v : ℕ) (xs : List ℕ) (d : Decoder) (store : List ℕ) (g : Matches
       over : isOpen v xs ≡ true → limit ≤ d .len → limit < length xs + 2
       over e l = omega (arith, g .framed e .size)
   good k.Realtime h = (realtime-told store (realtimeOf b), g)
+
+-- a state that knows no status, has no frame open and nothing pending has seen nothing
+pub cleared-matches : (d : Decoder) (store : List ℕ) → limit ≤ length store → Matches 0 [] (cleared d) store
+cleared-matches d store room = closed-at 0 [] d store refl (rw (none-of-data 0 (omega arith))) (nothing-pending 0) room
+
+-- one byte
+pub byte-is-step : (v : ℕ) (xs : List ℕ) (d : Decoder) (store : List ℕ) (b : ℕ) → Matches v xs d store
+    → (reportsIn (step d b) (stored d store b) ≡ heard v xs b)
+    × Matches (nextStatus (classOf b) v b) (nextData (classOf b) xs b) (step d b .state) (stored d store b)
+unfolding step stored heard
+byte-is-step v xs d store b m = good v xs d store m b (classOf b) (range-of b)
+
+-- bytes that come singly report what history says of them
+pub history-is-step : (past : List ℕ) (d : Decoder) (store bytes : List ℕ) → Matches (lastStatus past) (dataSince past) d store
+    → singly d store bytes ≡ meaning past bytes
+unfolding singly meaning
+history-is-step past d store [] g = refl
+history-is-step past d store (b ∷ bs) g =
+    let next = byte-is-step (lastStatus past) (dataSince past) d store b g in
+    let same = ahead (classOf b) past b (range-of b) in
+    ap₂ (λ (x : List Told) (rest : List (List Told)). x ∷ rest) (next .0)
+    (history-is-step (b ∷ past) (step d b .state) (stored d store b) bs
+    (subst (λ (v : ℕ). Matches v (dataSince (b ∷ past)) (step d b .state) (stored d store b)) (sym (same .0))
+    (subst (λ (xs : List ℕ). Matches (nextStatus (classOf b) (lastStatus past) b) xs (step d b .state) (stored d store b)) (sym (same .1)) (next .1))))

@@ -1,3 +1,4 @@
 pub mod Ahead
 pub mod Matches
 pub mod HistoryIsStep
+pub mod Chunking

@@ -7,6 +7,7 @@ use Rattle.laws.specs.Choice.{pick}
 use Rattle.refusal.specs.Outcome.{Outcome, gives, refused}
 use Rattle.decoder.specs.declared.Decoder.{Decoder}
 use Rattle.decoder.specs.State.{limit}
+use Rattle.decoder.specs.Step.{step, stored}
 use Rattle.decoder.specs.Call.{Walked, call, storeOf}
 use Rattle.decoder.specs.Reports.{reportList, toldAll}
 use Rattle.damage.specs.History.{Told}
@@ -60,6 +61,12 @@ calls (give n ∷ cs) d store bytes =
 calls (lend-short other others short ∷ cs) d store bytes =
     let o = call d other others in
     withCall o (calls cs (stateOf o d) store bytes)
+
+-- what the bytes report if they come singly: each byte's reports, a frame's bytes read from the store that it leaves
+unfoldable pub singly : Decoder → List ℕ → List ℕ → List (List Told)
+singly d store [] = []
+singly d store (b ∷ bs) =
+    toldAll (stored d store b) (reportList (step d b .interrupted) (step d b .report)) ∷ singly (step d b .state) (stored d store b) bs
 
 -- how many bytes all the calls used
 abbrev pub total : List (Outcome ℕ) → ℕ
