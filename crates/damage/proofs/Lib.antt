@@ -2,3 +2,4 @@ pub mod Ahead
 pub mod Matches
 pub mod HistoryIsStep
 pub mod Chunking
+pub mod MessagesRead
