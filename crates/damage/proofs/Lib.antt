@@ -3,3 +3,5 @@ pub mod Matches
 pub mod HistoryIsStep
 pub mod Chunking
 pub mod MessagesRead
+pub mod Woven
+pub mod Condition3
