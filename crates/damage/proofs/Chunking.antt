@@ -75,34 +75,38 @@ walks (suc n) d store (b ∷ bs) h =
   where
     w : Walked
     w = walk (step d b .state) (stored d store b) (take n bs)
+
     coming : List (List Told)
     coming = singly (step d b .state) (stored d store b) bs
+
     own : List Told
     own = toldAll (stored d store b) (reportList (step d b .interrupted) (step d b .report))
+
     stops : reports (step d b) ≡ true → Walks d store (b ∷ bs) (suc n) (stopped (step d b) (stored d store b))
     stops e =
         let some : isNone own ≡ false = reports-some (step d b) (stored d store b) ∙ ap not e in
-        record
-        { used = rw some
-        ; heard = refl
-        ; idle = λ q. absurd (omega arith)
-        ; rest = refl
-        ; sound-after = sound-kept d b h
-        ; length-after = length-kept d store b
+        record {
+          used = rw some;
+          heard = refl;
+          idle = λ q. absurd (omega arith);
+          rest = refl;
+          sound-after = sound-kept d b h;
+          length-after = length-kept d store b;
         }
+
     goes-on : Walks (step d b .state) (stored d store b) bs n (walk (step d b .state) (stored d store b) (take n bs)) → reports (step d b) ≡ false
         → Walks d store (b ∷ bs) (suc n) (further 1 (walk (step d b .state) (stored d store b) (take n bs)))
     goes-on next e =
         let none : isNone own ≡ true = reports-some (step d b) (stored d store b) ∙ ap not e in
-        record
-        { used = rw (none, next .used)
-        ; heard =
-            silent-front (w .fed .used) (heardOf w) (next .idle) ∙ ap (λ (ys : List (List Told)). [] ∷ ys) (next .heard)
-            ∙ sym (ap (λ (k : ℕ). take k (own ∷ coming)) (one-more (w .fed .used)) ∙ ap (λ (o : List Told). o ∷ take (w .fed .used) coming) (none-is own none))
-        ; idle = λ q. absurd (omega arith)
-        ; rest = rw (one-more _) (next .rest)
-        ; sound-after = next .sound-after
-        ; length-after = next .length-after ∙ length-kept d store b
+        record {
+          used = rw (none, next .used);
+          heard =
+              silent-front (w .fed .used) (heardOf w) (next .idle) ∙ ap (λ (ys : List (List Told)). [] ∷ ys) (next .heard)
+              ∙ sym (ap (λ (k : ℕ). take k (own ∷ coming)) (one-more (w .fed .used)) ∙ ap (λ (o : List Told). o ∷ take (w .fed .used) coming) (none-is own none));
+          idle = λ q. absurd (omega arith);
+          rest = rw (one-more _) (next .rest);
+          sound-after = next .sound-after;
+          length-after = next .length-after ∙ length-kept d store b;
         }
 
 -- a call that is ready walks; one that is lent too short a store is refused with 20
@@ -125,15 +129,15 @@ chunking (give n ∷ cs) d store bytes h room =
     let next = chunking cs (w .fed .state) (w .store) (drop used bytes) (k .sound-after) (subst (λ (l : ℕ). limit ≤ l) (sym (k .length-after)) room) in
     let later = calls cs (w .fed .state) (w .store) (drop used bytes) in
     let coming = singly d store bytes in
-    rw (ready-walks d store (take n bytes) h room)
-    ( ap₂ (λ (u : ℕ) (rest : List (Outcome ℕ)). gives u ∷ rest) (k .used)
-      (next .0 ∙ ap (paced cs) (k .rest) ∙ ap (λ (u : ℕ). paced cs (drop u coming)) (k .used))
-    , ap₂ (λ (x y : List (List Told)). x ++ y) (k .heard) (next .1 ∙ ap (take (total (later .answers))) (k .rest))
-      ∙ sym (take-add used (total (later .answers)) coming)
+    rw (ready-walks d store (take n bytes) h room) (
+      ap₂ (λ (u : ℕ) (rest : List (Outcome ℕ)). gives u ∷ rest) (k .used)
+          (next .0 ∙ ap (paced cs) (k .rest) ∙ ap (λ (u : ℕ). paced cs (drop u coming)) (k .used)),
+      ap₂ (λ (x y : List (List Told)). x ++ y) (k .heard) (next .1 ∙ ap (take (total (later .answers))) (k .rest))
+          ∙ sym (take-add used (total (later .answers)) coming),
     )
 chunking (lend-short other others short ∷ cs) d store bytes h room =
     let next = chunking cs d store bytes h room in
-    rw (short-refused d other others short)
-    ( ap (λ (rest : List (Outcome ℕ)). refused 20 [] ∷ rest) (next .0)
-    , next .1 ∙ ap (λ (u : ℕ). take u (singly d store bytes)) (sym (zero-add (total (calls cs d store bytes .answers))))
+    rw (short-refused d other others short) (
+      ap (λ (rest : List (Outcome ℕ)). refused 20 [] ∷ rest) (next .0),
+      next .1 ∙ ap (λ (u : ℕ). take u (singly d store bytes)) (sym (zero-add (total (calls cs d store bytes .answers)))),
     )

@@ -69,10 +69,10 @@ flag-is-open v xs d store g =
 closed-at : (v : ℕ) (xs : List ℕ) (d : Decoder) (store : List ℕ) → isOpen v xs ≡ false → held v xs ≡ s.None → pending v xs ≡ 0 → limit ≤ length store
     → Matches v xs (cleared d) store
 closed-at v xs d store n h p room =
-    record
-    { room = room
-    ; framed = λ e. absurd (true-is-not-false (sym e ∙ n))
-    ; plain = λ e. record { outside = refl; force = sym h; have = sym p; first = λ q. absurd (omega arith) }
+    record {
+      room = room;
+      framed = λ e. absurd (true-is-not-false (sym e ∙ n));
+      plain = λ e. record { outside = refl; force = sym h; have = sym p; first = λ q. absurd (omega arith) };
     }
 
 cleared-by : (b : ℕ) (d : Decoder) (store : List ℕ) → 0xF4 ≤ b → limit ≤ length store → Matches b [] (cleared d) store
@@ -129,38 +129,43 @@ module _ (v : ℕ) (xs : List ℕ) (d : Decoder) (store : List ℕ) (g : Matches
       let f = g .framed e in
       let o = open-is v xs e in
       let size : d .len ≡ suc (length xs) = f .size in
-      let still : isOpen v (xs ++ (b ∷ [])) ≡ true = rw (eq-eqb v 0xF0 (o .0), more, lt-ltb (length xs + 1) limit (omega arith)) in
-      ( sym (rw (eq-eqb v 0xF0 (o .0), ne-eqb (length xs + 1) limit (λ q. omega arith)))
-      , record
-        { room = room-after
-        ; framed = λ q. record { inside = refl; size = omega (arith, more); front = front-after e l }
-        ; plain = λ q. absurd (true-is-not-false (sym still ∙ q))
-        })
+      let still : isOpen v (xs ++ (b ∷ [])) ≡ true = rw (eq-eqb v 0xF0 (o .0), more, lt-ltb (length xs + 1) limit (omega arith)) in (
+        sym (rw (eq-eqb v 0xF0 (o .0), ne-eqb (length xs + 1) limit (λ q. omega arith))),
+        record {
+          room = room-after;
+          framed = λ q. record { inside = refl; size = omega (arith, more); front = front-after e l };
+          plain = λ q. absurd (true-is-not-false (sym still ∙ q));
+        },
+      )
 
   -- it was the byte beyond the limit
   data-beyond : isOpen v xs ≡ true → limit ≤ d .len → Good k.Data v xs b (tooLong d) store
   data-beyond e l =
       let o = open-is v xs e in
       let size : d .len ≡ suc (length xs) = g .framed e .size in
-      let none = start-holds-none (xs ++ (b ∷ [])) in
-      ( sym (rw (eq-eqb v 0xF0 (o .0), eq-eqb (length xs + 1) limit (omega arith)))
-      , closed-at v (xs ++ (b ∷ [])) d store (rw (eq-eqb v 0xF0 (o .0), more, le-ltb (length xs + 1) limit (omega arith)))
-      (ap (λ n. held n (xs ++ (b ∷ []))) (o .0) ∙ none .0) (ap (λ n. pending n (xs ++ (b ∷ []))) (o .0) ∙ none .1) (g .room))
+      let none = start-holds-none (xs ++ (b ∷ [])) in (
+        sym (rw (eq-eqb v 0xF0 (o .0), eq-eqb (length xs + 1) limit (omega arith))),
+        closed-at v (xs ++ (b ∷ [])) d store (rw (eq-eqb v 0xF0 (o .0), more, le-ltb (length xs + 1) limit (omega arith)))
+            (ap (λ n. held n (xs ++ (b ∷ []))) (o .0) ∙ none .0) (ap (λ n. pending n (xs ++ (b ∷ []))) (o .0) ∙ none .1) (g .room),
+      )
 
   -- no frame is open
   data-outside : isOpen v xs ≡ false → Good k.Data v xs b (collect (d .status) d b) store
   data-outside e =
-      let n = data-next v xs d b store (g .plain e) in
-      ( n .0 ∙ split (eqb v 0xF0) dropped (λ q. rw q)
-      , record { room = g .room; framed = λ q. absurd (never q); plain = λ q. n .1 })
+      let n = data-next v xs d b store (g .plain e) in (
+        n .0 ∙ split (eqb v 0xF0) dropped (λ q. rw q),
+        record { room = g .room; framed = λ q. absurd (never q); plain = λ q. n .1 },
+      )
     where
       beyond : v ≡ 0xF0 → limit ≤ length xs
       beyond p = ltb-false (length xs) limit (rw (eq-eqb v 0xF0 p) at e)
+
       dropped : eqb v 0xF0 ≡ true → heardData v xs b ≡ heardIn k.Data v xs b
       dropped q =
           let p : v ≡ 0xF0 = eqb-true v 0xF0 q in
           let l : limit ≤ length xs = beyond p in
           ap (λ (n : ℕ). heardData n xs b) p ∙ start-silent xs b ∙ sym (rw (q, ne-eqb (length xs + 1) limit (λ z. omega arith)))
+
       never : isOpen v (xs ++ (b ∷ [])) ≡ true → ⊥
       never q =
           let o = open-is v (xs ++ (b ∷ [])) q in
@@ -174,25 +179,27 @@ module _ (v : ℕ) (xs : List ℕ) (d : Decoder) (store : List ℕ) (g : Matches
       (λ l. let eqs = data-fits d store b (g .framed e .inside) (ltb-true _ _ l) in good-by k.Data v xs b _ _ _ _ (eqs .0) (eqs .1) (data-in e (ltb-true _ _ l)))
       (λ l. let eqs = data-over d store b (g .framed e .inside) (ltb-false _ _ l) in good-by k.Data v xs b _ _ _ _ (eqs .0) (eqs .1) (data-beyond e (ltb-false _ _ l))))
       (λ e. let eqs = data-plain d store b (g .plain e .outside) in good-by k.Data v xs b _ _ _ _ (eqs .0) (eqs .1) (data-outside e))
-  good k.Held h =
-      ( unreported store
-      , record
-        { room = g .room
-        ; framed = λ e. absurd (true-is-not-false (sym e ∙ not-open b [] (h .2)))
-        ; plain = λ e. record { outside = refl; force = sym (held-first b h); have = sym (nothing-pending b); first = λ q. absurd (none q) }
-        })
+  good k.Held h = (
+    unreported store,
+    record {
+      room = g .room;
+      framed = λ e. absurd (true-is-not-false (sym e ∙ not-open b [] (h .2)));
+      plain = λ e. record { outside = refl; force = sym (held-first b h); have = sym (nothing-pending b); first = λ q. absurd (none q) };
+    },
+  )
     where
       none : pending b [] ≡ 1 → ⊥
       none q = omega (arith, nothing-pending b)
   good k.Start h =
       let some : 0 < length store = omega (arith, g .room, room-for-two) in
-      let begun : isOpen b [] ≡ true = rw (h, lt-ltb 0 limit (omega (arith, room-for-two))) in
-      ( unreported (set store 0 b)
-      , record
-        { room = rw (length-set store 0 b) (g .room)
-        ; framed = λ e. record { inside = refl; size = refl; front = take-suc-set store 0 b some ∙ ap (λ n. n ∷ []) h }
-        ; plain = λ e. absurd (true-is-not-false (sym begun ∙ e))
-        })
+      let begun : isOpen b [] ≡ true = rw (h, lt-ltb 0 limit (omega (arith, room-for-two))) in (
+        unreported (set store 0 b),
+        record {
+          room = rw (length-set store 0 b) (g .room);
+          framed = λ e. record { inside = refl; size = refl; front = take-suc-set store 0 b some ∙ ap (λ n. n ∷ []) h };
+          plain = λ e. absurd (true-is-not-false (sym begun ∙ e));
+        },
+      )
   good k.Undefined h = (unreported store, cleared-by b d store (h .0) (g .room))
   good k.Tune h = (flagged store (m.Some (r.Common y.TuneRequest)), cleared-by b d store (omega arith) (g .room))
   good k.End h =
@@ -207,8 +214,10 @@ module _ (v : ℕ) (xs : List ℕ) (d : Decoder) (store : List ℕ) (g : Matches
     where
       above : 0xF4 ≤ b
       above = omega arith
+
       fits : isOpen v xs ≡ true → d .len < limit → length xs + 2 ≤ limit
       fits e l = omega (arith, g .framed e .size)
+
       over : isOpen v xs ≡ true → limit ≤ d .len → limit < length xs + 2
       over e l = omega (arith, g .framed e .size)
   good k.Realtime h = (realtime-told store (realtimeOf b), g)

@@ -92,9 +92,10 @@ Next v xs b store x = (toldAll store (reportList (x .interrupted) (x .report)) �
 module _ (v : ℕ) (xs : List ℕ) (d : Decoder) (b : ℕ) (store : List ℕ) where
   whole : (first second a z : ℕ) → heardData v xs b ≡ message v a z → kept v ≡ held v (xs ++ (b ∷ [])) → pending v (xs ++ (b ∷ [])) ≡ 0
       → Next v xs b store (record { state = completed d v first second; interrupted = false; report = messageReport v a z })
-  whole first second a z e k p =
-      (message-told store v a z ∙ sym e
-      , record { outside = refl; force = k; have = sym p; first = λ q. absurd (omega arith) })
+  whole first second a z e k p = (
+    message-told store v a z ∙ sym e,
+    record { outside = refl; force = k; have = sym p; first = λ q. absurd (omega arith) },
+  )
 
   -- one byte waits for the second
   waits : heardData v xs b ≡ [] → held v (xs ++ (b ∷ [])) ≡ s.Status v → pending v (xs ++ (b ∷ [])) ≡ 1
@@ -126,21 +127,25 @@ module _ (v : ℕ) (xs : List ℕ) (d : Decoder) (b : ℕ) (store : List ℕ) wh
     where
       stays : kept v ≡ held v (xs ++ (b ∷ []))
       stays = rw c
+
       one : leb (dataLength v) 1 ≡ true → Next v xs b store (collect (s.Status v) d b)
       one l =
           let none : d .have ≡ 0 = o .have ∙ rw (c, l) in
           goes _ _ (at-once none l) (whole b (d .data1) b 0 (rw (c, l)) stays (rw (c, l)))
+
       two : leb (dataLength v) 1 ≡ false → Next v xs b store (collect (s.Status v) d b)
       two l = split (eqb (length xs % 2) 1) odd even
         where
           now : d .have ≡ length xs % 2
           now = o .have ∙ rw (c, l)
+
           odd : eqb (length xs % 2) 1 ≡ true → Next v xs b store (collect (s.Status v) d b)
           odd e =
               let is : length xs % 2 ≡ 1 = eqb-true _ _ e in
               let known : d .data0 ≡ lastOf xs = o .first (rw (c, l) is) in
               goes _ _ (second-of-two (now ∙ is))
               (whole (d .data0) b (d .data0) b (rw (c, l, e, known)) stays (rw (c, l, more) (omega arith)))
+
           even : eqb (length xs % 2) 1 ≡ false → Next v xs b store (collect (s.Status v) d b)
           even e =
               let is : length xs % 2 ≡ 0 = omega (arith, eqb-false (length xs % 2) 1 e) in
@@ -152,25 +157,30 @@ module _ (v : ℕ) (xs : List ℕ) (d : Decoder) (b : ℕ) (store : List ℕ) wh
     where
       now : d .have ≡ length xs
       now = o .have ∙ rw (c, lt-ltb _ _ h)
+
       done : dataLength v ≤ length xs + 1 → (kept v ≡ held v (xs ++ (b ∷ []))) × (pending v (xs ++ (b ∷ [])) ≡ 0)
       done g = (rw (c, more, le-ltb (length xs + 1) (dataLength v) g), rw (c, more, le-ltb (length xs + 1) (dataLength v) g))
+
       one : leb (dataLength v) 1 ≡ true → Next v xs b store (collect (s.Status v) d b)
       one l =
           let small : dataLength v ≤ 1 = leb-true _ _ l in
           let none : d .have ≡ 0 = now ∙ omega arith in
           let all = done (omega arith) in
           goes _ _ (at-once none l) (whole b (d .data1) b 0 (rw (c, l, eq-eqb (length xs + 1) (dataLength v) (omega arith))) (all .0) (all .1))
+
       two : leb (dataLength v) 1 ≡ false → Next v xs b store (collect (s.Status v) d b)
       two l = split (eqb (length xs) 0) empty some
         where
           exactly : dataLength v ≡ 2
           exactly = omega (arith, at-most-two v, leb-false (dataLength v) 1 l)
+
           empty : eqb (length xs) 0 ≡ true → Next v xs b store (collect (s.Status v) d b)
           empty e =
               let is : length xs ≡ 0 = eqb-true _ _ e in
               goes _ _ (first-of-two (now ∙ is) l)
               (waits (rw (c, ne-eqb (length xs + 1) (dataLength v) (λ q. omega (arith, exactly)))) (rw (c, more, lt-ltb (length xs + 1) (dataLength v) (omega (arith, exactly))))
               (rw (c, more, lt-ltb (length xs + 1) (dataLength v) (omega (arith, exactly))) (omega arith)))
+
           some : eqb (length xs) 0 ≡ false → Next v xs b store (collect (s.Status v) d b)
           some e =
               let is : length xs ≡ 1 = omega (arith, exactly, eqb-false (length xs) 0 e) in
@@ -181,14 +191,15 @@ module _ (v : ℕ) (xs : List ℕ) (d : Decoder) (b : ℕ) (store : List ℕ) wh
 
   -- no status in force: stray data
   stray-next : isChannelStatus v ≡ false → dataLength v ≤ length xs → Outside v xs d → Next v xs b store (collect s.None d b)
-  stray-next c h o =
-      (sym (rw (c, ne-eqb (length xs + 1) (dataLength v) (λ q. omega arith)))
-      , record
-        { outside = o .outside
-        ; force = o .force ∙ rw (c, more, le-ltb (length xs) (dataLength v) h, le-ltb (length xs + 1) (dataLength v) (omega arith))
-        ; have = o .have ∙ rw (c, more, le-ltb (length xs) (dataLength v) h, le-ltb (length xs + 1) (dataLength v) (omega arith))
-        ; first = λ (q : pending v (xs ++ (b ∷ [])) ≡ 1). absurd (none q)
-        })
+  stray-next c h o = (
+    sym (rw (c, ne-eqb (length xs + 1) (dataLength v) (λ q. omega arith))),
+    record {
+      outside = o .outside;
+      force = o .force ∙ rw (c, more, le-ltb (length xs) (dataLength v) h, le-ltb (length xs + 1) (dataLength v) (omega arith));
+      have = o .have ∙ rw (c, more, le-ltb (length xs) (dataLength v) h, le-ltb (length xs + 1) (dataLength v) (omega arith));
+      first = λ (q : pending v (xs ++ (b ∷ [])) ≡ 1). absurd (none q);
+    },
+  )
     where
       none : pending v (xs ++ (b ∷ [])) ≡ 1 → ⊥
       none q =
@@ -201,6 +212,7 @@ module _ (v : ℕ) (xs : List ℕ) (d : Decoder) (b : ℕ) (store : List ℕ) wh
     where
       under : (x : RunningStatus) → held v xs ≡ x → Next v xs b store (collect x d b) → Next v xs b store (collect (d .status) d b)
       under x e n = subst (λ (y : RunningStatus). Next v xs b store (collect y d b)) (sym (o .force ∙ e)) n
+
       other : isChannelStatus v ≡ false → Next v xs b store (collect (d .status) d b)
       other c =
           split (ltb (length xs) (dataLength v)) (λ l. under (s.Status v) (rw (c, l)) (common-next c (ltb-true _ _ l) o))

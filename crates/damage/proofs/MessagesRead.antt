@@ -73,10 +73,10 @@ voice c m ok =
     let fit = both _ _ (both _ _ ok .0) in
     let in-channel : c .0 < 16 = ltb-true _ _ (fit .0) in
     let range = nibble-range m in
-    record
-    { held = (omega arith, omega arith, λ q. omega arith)
-    ; takes = channel-data-length (c .0) m in-channel
-    ; means = rw (channel-reads-back (c .0) m in-channel (fit .1)) (ap (λ (n : ℕ). gives (channel (record { 0 = n }) m) ∷ []) (low-four (c .0) m in-channel))
+    record {
+      held = (omega arith, omega arith, λ q. omega arith);
+      takes = channel-data-length (c .0) m in-channel;
+      means = rw (channel-reads-back (c .0) m in-channel (fit .1)) (ap (λ (n : ℕ). gives (channel (record { 0 = n }) m) ∷ []) (low-four (c .0) m in-channel));
     }
 
 -- how many data bytes the common statuses take

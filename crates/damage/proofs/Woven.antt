@@ -121,23 +121,23 @@ whole-behind [] ok zero = record { messages = []; is = refl; ok = refl }
 whole-behind [] ok (suc j) = record { messages = []; is = refl; ok = refl }
 whole-behind (m ∷ ms) ok zero =
     let s = shaped m (both (sendable m) (allSendable ms) ok .0) in
-    record
-    { messages = m ∷ ms
-    ; is = subst (λ (l : List ℕ). fromFirst (tags true (eventOf m) l ++ allTagged ms) ≡ tags true (eventOf m) l ++ allTagged ms) (sym (s .is))
-        (from-status (eventOf m) (s .status) (s .data-bytes) (allTagged ms))
-    ; ok = ok
+    record {
+      messages = m ∷ ms;
+      is = subst (λ (l : List ℕ). fromFirst (tags true (eventOf m) l ++ allTagged ms) ≡ tags true (eventOf m) l ++ allTagged ms) (sym (s .is))
+          (from-status (eventOf m) (s .status) (s .data-bytes) (allTagged ms));
+      ok = ok;
     }
 whole-behind (m ∷ ms) ok (suc j) =
     let s = shaped m (both (sendable m) (allSendable ms) ok .0) in
     let over = over-data (eventOf m) (s .data-bytes) (allTagged ms) j in
     let next = whole-behind ms (both (sendable m) (allSendable ms) ok .1) (over .0) in
-    record
-    { messages = next .messages
-    ; is =
-        ap fromFirst
-        (ap (λ (l : List ℕ). drop (suc j) (tags true (eventOf m) l ++ allTagged ms)) (s .is) ∙ behind-status (eventOf m) (s .status) (s .data-bytes) (allTagged ms) j)
-        ∙ over .1 ∙ next .is
-    ; ok = next .ok
+    record {
+      messages = next .messages;
+      is =
+          ap fromFirst
+          (ap (λ (l : List ℕ). drop (suc j) (tags true (eventOf m) l ++ allTagged ms)) (s .is) ∙ behind-status (eventOf m) (s .status) (s .data-bytes) (allTagged ms) j)
+          ∙ over .1 ∙ next .is;
+      ok = next .ok;
     }
 
 -- a message's first tag holds its status byte
@@ -156,6 +156,6 @@ begins-with-status (m ∷ ms) ok t ts e =
     let low = s .low in
     let high = s .high in
     let same : t .byte ≡ s .status =
-        sym (ap headByte e) ∙ ap (λ (l : List ℕ). headByte (tags true (eventOf m) l ++ allTagged ms)) (s .is)
-        ∙ head-status (eventOf m) (s .status) (s .data-bytes) (allTagged ms) in
+    sym (ap headByte e) ∙ ap (λ (l : List ℕ). headByte (tags true (eventOf m) l ++ allTagged ms)) (s .is)
+    ∙ head-status (eventOf m) (s .status) (s .data-bytes) (allTagged ms) in
     (omega arith, omega arith)

@@ -96,6 +96,7 @@ sound-kept d b h = go (classOf b) (range-of b)
   where
     P : Stepped → Type 0
     P x = sound (x .state) ≡ true
+
     go : (c : Class) → Range c b → P (stepIn c d b)
     go k.Data r =
         by-test P (d .in_sysex) _ _
@@ -116,6 +117,7 @@ length-kept d store b = go (classOf b)
     one : (t : Bool) (n : ℕ) → length (pick t (set store n b) store) ≡ length store
     one true n = length-set store n b
     one false n = refl
+
     go : (c : Class) → length (storedIn c d store b) ≡ length store
     go k.Data = one (d .in_sysex && ltb (d .len) limit) (d .len)
     go k.Held = refl
