@@ -1,7 +1,6 @@
 -- How one more byte changes what the bytes ahead say: a data byte joins the data, a real-time byte changes nothing, and any other
 -- status byte takes the last one's place and forgets the data.
-use mathlib.Core.Path.{_≡_, refl}
-use mathlib.Core.Bool.{true, false}
+use mathlib.Core.Path.{_≡_}
 use mathlib.Core.List.{List, [], _∷_, _++_}
 use Prim.Native.Nat.{ℕ, _≤_, _<_}
 use native.Mathlib.Omega.{arith}

@@ -1,16 +1,14 @@
 -- A list of calls reports exactly what single bytes report, because a call stops at the first byte that reports, and hands its state
 -- and store to the next call.
 use mathlib.Core.Path.{_≡_, refl, sym, _∙_, ap, ap₂, subst}
-use mathlib.Core.Bool.{Bool, true, false, not, _&&_, _||_}
+use mathlib.Core.Bool.{Bool, true, false, not, _||_}
 use mathlib.Core.List.{List, [], _∷_, _++_}
-use Prim.Native.Nat.{ℕ, zero, suc, _+_, _≤_, _<_}
+use Prim.Native.Nat.{ℕ, zero, suc, _+_, _≤_}
 use native.Mathlib.Omega.{arith}
 use native.Mathlib.Nat.{zero-add}
-use lib.ListN.{length, take, drop, replicate}
+use lib.ListN.{length, take, drop}
 use lib.Seq.{take-add}
-use borrow.Author.Tests.{le-leb, lt-leb}
-use Rattle.laws.specs.Choice.{pick}
-use Rattle.laws.proofs.Tests.{split, by-test}
+use Rattle.laws.proofs.Tests.{by-test}
 use Rattle.refusal.specs.Outcome.{Outcome, gives, refused}
 use Rattle.decoder.specs.declared.Decoder.{Decoder}
 use Rattle.decoder.specs.declared.MaybeReport.{MaybeReport}
@@ -19,10 +17,11 @@ use Rattle.decoder.specs.declared.Stepped.{Stepped}
 use Rattle.decoder.specs.State.{limit, sound}
 use Rattle.decoder.specs.Step.{step, stored}
 use Rattle.decoder.specs.Reports.{reportList, toldAll}
-use Rattle.decoder.specs.Call.{Walked, reports, ended, stopped, further, walk, call, storeOf}
+use Rattle.decoder.specs.Call.{Walked, reports, ended, stopped, further, walk}
 use Rattle.decoder.proofs.SoundKept.{sound-kept, length-kept}
+use Rattle.decoder.proofs.Calling.{short-refused, ready-walks}
 use Rattle.damage.specs.History.{Told}
-use Rattle.damage.specs.Calls.{Call, give, lend-short, belonging, usedOf, countOf, reportsOf, stateOf, withCall, calls, singly, total, isNone, upToReport, paced}
+use Rattle.damage.specs.Calls.{Call, give, lend-short, belonging, calls, singly, total, isNone, upToReport, paced}
 
 -- a byte that reports has something to report, and one that does not has nothing
 reports-some : (x : Stepped) (store : List ℕ) → isNone (toldAll store (reportList (x .interrupted) (x .report))) ≡ not (reports x)
@@ -109,13 +108,6 @@ walks (suc n) d store (b ∷ bs) h =
           length-after = next .length-after ∙ length-kept d store b;
         }
 
--- a call that is ready walks; one that is lent too short a store is refused with 20
-ready-walks : (d : Decoder) (store bytes : List ℕ) → sound d ≡ true → limit ≤ length store → call d store bytes ≡ gives (walk d store bytes)
-ready-walks d store bytes h room = rw (le-leb limit (length store) room, h)
-
-short-refused : (d : Decoder) (store bytes : List ℕ) → length store < limit → call d store bytes ≡ refused 20 []
-short-refused d store bytes short = rw (lt-leb limit (length store) short)
-
 -- the list of calls: each call's answer, and each byte's reports as far as bytes were used
 pub chunking : (cs : List Call) (d : Decoder) (store bytes : List ℕ) → sound d ≡ true → limit ≤ length store
     → (calls cs d store bytes .answers ≡ paced cs (singly d store bytes))
@@ -129,7 +121,7 @@ chunking (give n ∷ cs) d store bytes h room =
     let next = chunking cs (w .fed .state) (w .store) (drop used bytes) (k .sound-after) (subst (λ (l : ℕ). limit ≤ l) (sym (k .length-after)) room) in
     let later = calls cs (w .fed .state) (w .store) (drop used bytes) in
     let coming = singly d store bytes in
-    rw (ready-walks d store (take n bytes) h room) (
+    rw (ready-walks d store (take n bytes) room h) (
       ap₂ (λ (u : ℕ) (rest : List (Outcome ℕ)). gives u ∷ rest) (k .used)
           (next .0 ∙ ap (paced cs) (k .rest) ∙ ap (λ (u : ℕ). paced cs (drop u coming)) (k .used)),
       ap₂ (λ (x y : List (List Told)). x ++ y) (k .heard) (next .1 ∙ ap (take (total (later .answers))) (k .rest))

@@ -2,28 +2,26 @@
 -- The first message wholly after the run begins with its own status byte, from which on history has forgotten the break: only
 -- whether a frame is open there is left to be told.
 use mathlib.Core.Path.{_≡_, refl, sym, _∙_, ap, ap₂, subst}
-use mathlib.Core.Bool.{Bool, true, false, _&&_}
+use mathlib.Core.Bool.{Bool, true, false}
 use mathlib.Core.List.{List, [], _∷_, _++_, map, append-assoc}
-use mathlib.Core.Logic.{_⊎_, inl, inr, ⊎-elim}
+use mathlib.Core.Logic.{_⊎_, ⊎-elim}
 use Prim.Native.Nat.{ℕ, zero, suc, _+_, _≤_, _<_}
 use native.Mathlib.Omega.{arith}
 use lib.ListN.{length, take, drop}
 use Rattle.laws.specs.Choice.{pick}
-use Rattle.laws.proofs.Tests.{split}
-use Rattle.decoder.specs.declared.Decoder.{Decoder}
 use Rattle.decoder.specs.declared.Class.{Class}
 use Rattle.decoder.specs.declared.Class.the-variants as k
-use Rattle.decoder.specs.State.{limit, fresh, cleared}
+use Rattle.decoder.specs.State.{limit, fresh}
 use Rattle.decoder.specs.Step.{classOf}
 use Rattle.decoder.proofs.Classes.{Range, range-of}
 use Rattle.damage.specs.Open.{later, lastStatus, dataSince, isOpen, openAt}
 use Rattle.damage.specs.History.{Told, interrupted, interruption, heardIn, heard, meaning}
 use Rattle.damage.specs.Sent.{Message, allSendable, Tag, allTagged, Sent, bytes, intacts}
-use Rattle.damage.specs.Damage.{before, behind, arrives, fromFirst, untilFirst, breakBytes, causes, led, openThere, expected}
-use Rattle.damage.specs.Calls.{Call, calls, singly, total, paced}
+use Rattle.damage.specs.Damage.{before, behind, arrives, fromFirst, untilFirst, breakBytes, causes, led, expected}
+use Rattle.damage.specs.Calls.{Call, calls, total, paced}
 use Rattle.damage.proofs.Ahead.{nextStatus, nextData, ahead}
 use Rattle.damage.proofs.MessagesRead.{Reads, messages-read}
-use Rattle.damage.proofs.Woven.{woven, sent-behind, Begins, begins, Whole, whole-behind, begins-with-status}
+use Rattle.damage.proofs.Woven.{woven, sent-behind, Begins, begins, whole-behind, begins-with-status}
 use Rattle.damage.proofs.HistoryIsStep.{cleared-matches, history-is-step}
 use Rattle.damage.proofs.Chunking.{chunking}
 

@@ -1,17 +1,15 @@
 -- What the step reports is what history says, because the state holds just what the bytes ahead say, and each class of byte keeps it so.
 use mathlib.Core.Path.{_≡_, refl, sym, _∙_, ap, ap₂, subst}
-use mathlib.Core.Bool.{Bool, true, false, _&&_}
+use mathlib.Core.Bool.{Bool, true, false}
 use mathlib.Core.List.{List, [], _∷_, _++_}
 use Prim.Native.Nat.{ℕ, suc, _+_, _≤_, _<_}
 use native.Mathlib.Omega.{arith}
 use native.Mathlib.Numerals.{add-one}
-use lib.Dec.{ltb, leb, eqb}
+use lib.Dec.{ltb, eqb}
 use lib.ListN.{length, take, set, length-append, length-set}
 use lib.Seq.{take-suc-set}
 use borrow.Author.Tests.{ltb-true, ltb-false, eqb-true, lt-ltb, le-ltb, le-leb, lt-leb, eq-eqb, ne-eqb}
-use Rattle.laws.specs.Choice.{pick}
 use Rattle.laws.proofs.Tests.{split, both, true-is-not-false}
-use Rattle.refusal.specs.Outcome.{gives}
 use Rattle.wire.specs.Status.{dataLength, isChannelStatus}
 use Rattle.wire.specs.Realtime.{realtimeOf}
 use Rattle.wire.specs.declared.system_common.SystemCommon.the-variants as y
@@ -27,8 +25,8 @@ use Rattle.decoder.specs.declared.MaybeReport.{MaybeReport}
 use Rattle.decoder.specs.declared.MaybeReport.the-variants as m
 use Rattle.decoder.specs.declared.Stepped.{Stepped}
 use Rattle.decoder.specs.State.{limit, cleared}
-use Rattle.decoder.specs.Step.{classOf, stepIn, step, storedIn, stored, realtimeReport, silent, longer, tooLong, reporting, collect}
-use Rattle.decoder.specs.Reports.{common, ownReport, reportList, toldAll}
+use Rattle.decoder.specs.Step.{classOf, stepIn, step, storedIn, stored, realtimeReport, silent, longer, tooLong, collect}
+use Rattle.decoder.specs.Reports.{ownReport, reportList, toldAll}
 use Rattle.decoder.proofs.Limit.{room-for-two}
 use Rattle.decoder.proofs.Classes.{Range, range-of}
 use Rattle.decoder.proofs.SoundKept.{held-takes-data}
@@ -37,7 +35,7 @@ use Rattle.damage.specs.Open.{isOpen, lastStatus, dataSince}
 use Rattle.damage.specs.History.{Told, interruption, heardRealtime, heardData, heardIn, heard, meaning}
 use Rattle.damage.specs.Calls.{singly}
 use Rattle.damage.proofs.Ahead.{nextStatus, nextData, ahead}
-use Rattle.damage.proofs.Matches.{held, pending, InFrame, Outside, Matches, nothing-pending, data-next}
+use Rattle.damage.proofs.Matches.{held, pending, Matches, nothing-pending, data-next}
 
 -- a byte's reports, a frame's bytes read from the store that the byte leaves
 abbrev pub reportsIn : Stepped → List ℕ → List Told

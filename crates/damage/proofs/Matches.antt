@@ -1,16 +1,16 @@
 -- The decoder's state is what the bytes ahead say it is: the frame's bytes stand at the store's front, and the status and the byte
 -- that waits are those that the last status byte and the data since leave.
 use mathlib.Core.Path.{_≡_, refl, sym, _∙_, ap, subst}
-use mathlib.Core.Bool.{Bool, true, false, _&&_}
+use mathlib.Core.Bool.{true, false}
 use mathlib.Core.List.{List, [], _∷_, _++_}
 use Prim.Native.Nat.{ℕ, suc, _+_, _-_, _%_, _≤_, _<_}
 use native.Mathlib.Omega.{arith}
 use lib.Dec.{ltb, leb, eqb}
 use lib.ListN.{length, take, getD, length-append}
 use lib.Seq.{getD-append-seam}
-use borrow.Author.Tests.{ltb-true, ltb-false, leb-true, leb-false, eqb-true, eqb-false, lt-ltb, le-ltb, le-leb, lt-leb, eq-eqb, ne-eqb}
+use borrow.Author.Tests.{ltb-true, ltb-false, leb-true, leb-false, eqb-true, eqb-false, lt-ltb, le-ltb, eq-eqb, ne-eqb}
 use Rattle.laws.specs.Choice.{pick}
-use Rattle.laws.proofs.Tests.{by-test, split, both}
+use Rattle.laws.proofs.Tests.{by-test, split}
 use Rattle.wire.specs.Status.{dataLength, isChannelStatus}
 use Rattle.wire.specs.Channel.{channelMessage}
 use Rattle.wire.specs.Common.{commonMessage}
@@ -23,12 +23,12 @@ use Rattle.decoder.specs.declared.RunningStatus.the-variants as s
 use Rattle.decoder.specs.declared.Decoder.{Decoder}
 use Rattle.decoder.specs.declared.MaybeReport.the-variants as m
 use Rattle.decoder.specs.declared.Stepped.{Stepped}
-use Rattle.decoder.specs.State.{limit, cleared}
+use Rattle.decoder.specs.State.{limit}
 use Rattle.decoder.specs.Step.{commonReport, orCommon, messageReport, collect, kept, waiting, completed}
 use Rattle.decoder.specs.Reports.{ownReport, reportList, toldAll}
 use Rattle.decoder.proofs.SoundKept.{at-most-two}
 use Rattle.damage.specs.Open.{isOpen}
-use Rattle.damage.specs.History.{Told, heardCommon, heardMessage, message, lastOf, heardData}
+use Rattle.damage.specs.History.{heardCommon, heardMessage, message, lastOf, heardData}
 
 -- the status in force: a channel status for good, a common one until its data are there
 abbrev pub held : ℕ → List ℕ → RunningStatus

@@ -1,24 +1,20 @@
 -- Every in-range message is read whole, because its own status byte forgets what came before it and nothing in it is masked away.
-use mathlib.Core.Path.{_≡_, refl, sym, _∙_, ap, ap₂, subst}
-use mathlib.Core.Bool.{Bool, true, false, _&&_}
+use mathlib.Core.Path.{_≡_, refl, sym, _∙_, ap, subst}
+use mathlib.Core.Bool.{Bool, true, false}
 use mathlib.Core.List.{List, [], _∷_, _++_, append-assoc}
-use Prim.Native.Nat.{ℕ, suc, _+_, _*_, _/_, _%_, _≤_, _<_}
+use Prim.Native.Nat.{ℕ, _+_, _/_, _%_, _≤_, _<_}
 use native.Mathlib.Omega.{arith}
-use lib.Dec.{ltb, leb, eqb}
 use lib.ListN.{length, getD, length-append}
 use borrow.Author.Tests.{ltb-true, leb-true, lt-ltb, le-leb, ne-eqb}
-use Rattle.laws.specs.Choice.{pick}
 use Rattle.laws.proofs.Tests.{split, both}
 use Rattle.refusal.specs.Outcome.{gives}
 use Rattle.wire.specs.Status.{dataLength, isChannelStatus}
 use Rattle.wire.specs.declared.Channel.{Channel}
 use Rattle.wire.specs.declared.channel_message.ChannelMessage.{ChannelMessage}
 use Rattle.wire.specs.declared.channel_message.ChannelMessage.the-variants as w
-use Rattle.wire.specs.declared.channel_message.MaybeChannelMessage.{MaybeChannelMessage}
-use Rattle.wire.specs.declared.channel_message.MaybeChannelMessage.the-variants as o
 use Rattle.wire.specs.declared.system_common.SystemCommon.{SystemCommon}
 use Rattle.wire.specs.declared.system_common.SystemCommon.the-variants as y
-use Rattle.wire.specs.Channel.{statusNibble, dataBytes, channelMessage, messageInRange}
+use Rattle.wire.specs.Channel.{statusNibble, dataBytes}
 use Rattle.wire.specs.Common.{commonBytes, commonMessage, commonInRange}
 use Rattle.wire.proofs.Bytes.{nibble-range}
 use Rattle.wire.proofs.ReadBack.{channel-reads-back, channel-data-length, common-reads-back}
@@ -29,8 +25,8 @@ use Rattle.decoder.specs.Step.{classOf}
 use Rattle.decoder.specs.Reports.{Event, channel, common, frame}
 use Rattle.decoder.proofs.Classes.{Range, class-is}
 use Rattle.damage.specs.Open.{isOpen}
-use Rattle.damage.specs.History.{Told, heardMessage, heardCommon, message, heardIn, heard}
-use Rattle.damage.specs.Sent.{Message, Voice, Common, Frame, bytesOf, sevenBit, inRange, sendable, allSendable, eventOf, Tag, tags, tagged, allTagged}
+use Rattle.damage.specs.History.{Told, heardCommon, message, heardIn, heard}
+use Rattle.damage.specs.Sent.{Message, Voice, Common, Frame, bytesOf, sevenBit, sendable, allSendable, eventOf, Tag, tags, tagged, allTagged}
 use Rattle.damage.proofs.Ahead.{nextStatus, nextData}
 
 -- from this last status byte and these data bytes since it, each of the tags reports what it has to

@@ -1,14 +1,13 @@
 -- Real-time bytes among the messages change nothing but that they report themselves; and what is left of a sent stream from some
 -- message's first byte on is again messages with real-time bytes among them.
 use mathlib.Core.Path.{_≡_, refl, sym, _∙_, ap, ap₂, subst}
-use mathlib.Core.Bool.{Bool, true, false, _&&_}
+use mathlib.Core.Bool.{Bool, true, false}
 use mathlib.Core.List.{List, [], _∷_, _++_}
-use mathlib.Core.Logic.{_⊎_, inl, inr, ⊎-elim}
+use mathlib.Core.Logic.{_⊎_, inl, inr}
 use Prim.Native.Nat.{ℕ, zero, suc, _+_, _/_, _%_, _≤_, _<_}
 use native.Mathlib.Omega.{arith}
-use lib.ListN.{take, drop}
-use Rattle.laws.specs.Choice.{pick}
-use Rattle.laws.proofs.Tests.{split, by-test, both, true-is-not-false}
+use lib.ListN.{drop}
+use Rattle.laws.proofs.Tests.{both}
 use borrow.Author.Tests.{ltb-true}
 use Rattle.wire.specs.declared.system_common.SystemCommon.the-variants as y
 use Rattle.wire.specs.Channel.{statusNibble, dataBytes}
@@ -20,9 +19,9 @@ use Rattle.decoder.specs.Reports.{Event}
 use Rattle.decoder.proofs.Classes.{class-is, range-of}
 use Rattle.damage.specs.Open.{lastStatus, dataSince}
 use Rattle.damage.specs.History.{Told, heardRealtime, heard, meaning}
-use Rattle.damage.specs.Sent.{Message, Voice, Common, Frame, bytesOf, sendable, allSendable, eventOf, Tag, tags, tagged, allTagged, realtimeTag, Sent, nothing, own, between, bytes, intacts}
+use Rattle.damage.specs.Sent.{Message, Voice, Common, Frame, bytesOf, sendable, allSendable, eventOf, Tag, tags, allTagged, realtimeTag, Sent, nothing, own, between, bytes, intacts}
 use Rattle.damage.specs.Damage.{fromFirst}
-use Rattle.damage.proofs.Ahead.{nextStatus, nextData, ahead}
+use Rattle.damage.proofs.Ahead.{ahead}
 use Rattle.damage.proofs.MessagesRead.{Reads}
 
 -- a real-time byte reports itself

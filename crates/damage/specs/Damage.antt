@@ -1,5 +1,5 @@
 -- One stretch of what was sent is replaced: what arrives, and what has to be reported of it.
-use mathlib.Core.Bool.{Bool, true, false}
+use mathlib.Core.Bool.{Bool}
 use mathlib.Core.List.{List, [], _∷_, _++_}
 use Prim.Native.Nat.{ℕ, _+_}
 use lib.ListN.{take, drop}

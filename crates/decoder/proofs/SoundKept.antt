@@ -2,14 +2,14 @@
 -- holds a status that takes data, or has one byte more that was tested to fit.
 use mathlib.Core.Path.{_≡_, refl}
 use mathlib.Core.Bool.{Bool, true, false, _&&_}
-use mathlib.Core.List.{List, [], _∷_}
+use mathlib.Core.List.{List}
 use Prim.Native.Nat.{ℕ, _+_, _≤_, _<_}
 use native.Mathlib.Omega.{arith}
 use lib.Dec.{ltb, leb, eqb}
 use lib.ListN.{length, set, length-set}
 use borrow.Author.Tests.{ltb-true, ltb-false, leb-true, eqb-true, lt-ltb, le-leb, eq-eqb, eqb-false, leb-false, le-ltb}
 use Rattle.laws.specs.Choice.{pick}
-use Rattle.laws.proofs.Tests.{by-test, split, both, and-true}
+use Rattle.laws.proofs.Tests.{by-test, both}
 use Rattle.wire.specs.Status.{dataLength, isChannelStatus}
 use Rattle.decoder.specs.declared.RunningStatus.{RunningStatus}
 use Rattle.decoder.specs.declared.RunningStatus.the-variants as s
@@ -17,7 +17,7 @@ use Rattle.decoder.specs.declared.Decoder.{Decoder}
 use Rattle.decoder.specs.declared.Class.{Class}
 use Rattle.decoder.specs.declared.Class.the-variants as k
 use Rattle.decoder.specs.declared.Stepped.{Stepped}
-use Rattle.decoder.specs.State.{limit, sound, noStatus, waitsSoundly}
+use Rattle.decoder.specs.State.{limit, sound, waitsSoundly}
 use Rattle.decoder.specs.Step.{classOf, stepIn, step, storedIn, stored, collect, longer, kept}
 use Rattle.decoder.proofs.Limit.{room-for-two}
 use Rattle.decoder.proofs.Classes.{Range, range-of}

@@ -1,5 +1,5 @@
 -- A data byte and F7 by cases: what the step comes to, once it is known whether a frame is open and whether it has room.
-use mathlib.Core.Path.{_≡_, refl, ap, _∙_}
+use mathlib.Core.Path.{_≡_, refl, sym, ap, _∙_}
 use mathlib.Core.Bool.{Bool, true, false, _&&_}
 use mathlib.Core.List.{List}
 use Prim.Native.Nat.{ℕ, _+_, _≤_, _<_}
@@ -8,11 +8,12 @@ use lib.ListN.{set}
 use borrow.Author.Tests.{lt-ltb, le-ltb}
 use Rattle.laws.specs.Choice.{pick}
 use Rattle.decoder.specs.declared.Decoder.{Decoder}
+use Rattle.decoder.specs.declared.Class.{Class}
 use Rattle.decoder.specs.declared.Class.the-variants as k
 use Rattle.decoder.specs.declared.Report.the-variants as r
 use Rattle.decoder.specs.declared.Stepped.{Stepped}
 use Rattle.decoder.specs.State.{limit, cleared}
-use Rattle.decoder.specs.Step.{stepIn, storedIn, silent, longer, reporting, tooLong, collect}
+use Rattle.decoder.specs.Step.{classOf, stepIn, step, storedIn, stored, silent, longer, reporting, tooLong, collect}
 
 module _ (d : Decoder) (store : List ℕ) (b : ℕ) where
   -- a choice by two known tests
@@ -43,3 +44,9 @@ module _ (d : Decoder) (store : List ℕ) (b : ℕ) where
 
   pub end-plain : d .in_sysex ≡ false → (stepIn k.End d b ≡ silent (cleared d)) × (storedIn k.End d store b ≡ store)
   end-plain p = (inner _ _ _ false (ltb (d .len) limit) p refl, put false (ltb (d .len) limit) p refl)
+
+-- what a byte does is what its class does
+pub step-by : (c : Class) (d : Decoder) (store : List ℕ) (b : ℕ) → classOf b ≡ c → (x : Stepped) (kept : List ℕ) → x ≡ stepIn c d b → kept ≡ storedIn c d store b
+    → (x ≡ step d b) × (kept ≡ stored d store b)
+unfolding step stored
+step-by c d store b h x kept p q = (p ∙ ap (λ (a : Class). stepIn a d b) (sym h), q ∙ ap (λ (a : Class). storedIn a d store b) (sym h))

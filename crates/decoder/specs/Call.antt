@@ -2,7 +2,7 @@
 use mathlib.Core.Path.{_≡_}
 use mathlib.Core.Bool.{Bool, true, false, _&&_, _||_}
 use mathlib.Core.List.{List, [], _∷_}
-use Prim.Native.Nat.{ℕ, suc, _+_}
+use Prim.Native.Nat.{ℕ, _+_}
 use lib.Dec.{leb}
 use lib.ListN.{length}
 use Rattle.laws.specs.Choice.{pick}
@@ -47,6 +47,11 @@ unfoldable pub walk : Decoder → List ℕ → List ℕ → Walked
 walk d store [] = ended d store
 walk d store (b ∷ bs) =
     pick (reports (step d b)) (stopped (step d b) (stored d store b)) (further 1 (walk (step d b .state) (stored d store b) bs))
+
+-- what a walk gives: the answer's fields and the store
+pub record Walks (w : Walked) (fed : Fed) (afterwards : List ℕ) : Type 0 where
+  pub told : fed ≡ w .fed
+  pub left : afterwards ≡ w .store
 
 -- 20: "store under 2,354 bytes, unsound decoder state"; "tested first, nothing used"
 abbrev pub ready : Decoder → List ℕ → Bool

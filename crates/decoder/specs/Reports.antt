@@ -1,6 +1,6 @@
 -- What a report says in document 01's terms: an event, or a drop's number and values.
 use mathlib.Core.Bool.{Bool, true, false}
-use mathlib.Core.List.{List, [], _∷_, _++_, map}
+use mathlib.Core.List.{List, [], _∷_, map}
 use Prim.Native.Nat.{ℕ}
 use lib.ListN.{take}
 use Rattle.refusal.specs.Outcome.{Outcome, gives, refusal}

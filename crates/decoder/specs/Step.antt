@@ -1,7 +1,7 @@
 -- One byte: what it does to the state, what it reports, and what it leaves in the store.
-use mathlib.Core.Bool.{Bool, true, false, _&&_}
+use mathlib.Core.Bool.{true, false, _&&_}
 use mathlib.Core.List.{List}
-use Prim.Native.Nat.{ℕ, suc, _+_, _%_}
+use Prim.Native.Nat.{ℕ, _+_, _%_}
 use lib.Dec.{ltb, leb, eqb}
 use lib.ListN.{set}
 use Rattle.laws.specs.Choice.{pick}
