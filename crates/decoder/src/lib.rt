@@ -162,7 +162,7 @@ impl Decoder {
     pub fn reset(self) -> Decoder
         ensures { λ r. ⌜ r ≡ reset self ⌝ }
     {
-        self.cleared()
+        Decoder::cleared(self)
     }
 
     // Takes bytes until the first that reports. The store is lent at every call, as the last one left it. Refuses 20.
@@ -343,14 +343,15 @@ impl Decoder {
                 MaybeReport::Some(Report::Common(SystemCommon::TuneRequest)),
             ),
             Class::End => {
+                let next = self.cleared();
                 if !self.in_sysex {
-                    return silent(self.cleared());
+                    return silent(next);
                 }
-                if MAX_SYSEX_LEN <= at {
-                    return too_long(self);
+                if at < MAX_SYSEX_LEN {
+                    store[at] = byte;
+                    return reporting(next, Report::SysEx(at + 1));
                 }
-                store[at] = byte;
-                reporting(self.cleared(), Report::SysEx(at + 1))
+                too_long(self)
             }
             Class::Realtime => Stepped {
                 state: self,
@@ -488,7 +489,12 @@ fn reporting(state: Decoder, report: Report) -> Stepped
 fn too_long(state: Decoder) -> Stepped
     ensures { λ r. ⌜ r ≡ tooLong state ⌝ }
 {
-    reporting(state.cleared(), Report::SysExTooLong(MAX_SYSEX_LEN))
+    let next = state.cleared();
+    Stepped {
+        state: next,
+        interrupted: false,
+        report: MaybeReport::Some(Report::SysExTooLong(MAX_SYSEX_LEN)),
+    }
 }
 
 // A status byte below F7 breaks off an open frame.

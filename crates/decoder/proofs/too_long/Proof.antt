@@ -7,11 +7,8 @@ use Rattle.decoder.proofs.too_long.Tie as tie
 cleared-requires : tie.Need-cleared-requires
 cleared-requires c κs = search needs
 
-reporting-requires : tie.Need-reporting-requires
-reporting-requires c κs = search needs
-
 returns : tie.Need-returns
-returns c = rw (c .reporting .ensures, c .before .cleared .ensures, limit-is)
+returns c = rw (c .cleared .ensures, limit-is)
 
 pub too-long-spec : {M : Type 1} → statement M
-too-long-spec = tie.close (tie.spec cleared-requires reporting-requires returns)
+too-long-spec = tie.close (tie.spec cleared-requires returns)

@@ -95,31 +95,31 @@ silent-requires-2 c κs = search needs
 
 returns-3 : tie.Need-returns-3
 returns-3 c = let a = c .before .before .before .before .before .before .before .before .args in
-    let eqs = end-plain (a .self) (a .store .now) (a .byte) (not-true (a .self .in_sysex) (c .before .before .if3 .taken)) in
+    let eqs = end-plain (a .self) (a .store .now) (a .byte) (not-true (a .self .in_sysex) (c .before .if3 .taken)) in
     step-by k.End (a .self) (a .store .now) (a .byte) (sym (c .before .before .before .before .before .before .class-of .ensures) ∙ c .before .before .before .before .enum-told6 .given .1) _ _
-    (rw (c .silent2 .ensures, c .before .cleared3 .ensures) (sym (eqs .0))) (sym (eqs .1))
-
-too-long-requires-2 : tie.Need-too-long-requires-2
-too-long-requires-2 c κs = search needs
-
-returns-4 : tie.Need-returns-4
-returns-4 c = let a = c .before .before .before .before .before .before .before .before .args in
-    let over : limit ≤ a .self .len = omega (arith, limit-is) in
-    let eqs = end-over (a .self) (a .store .now) (a .byte) (not-false (a .self .in_sysex) (c .before .before .if3 .left)) over in
-    step-by k.End (a .self) (a .store .now) (a .byte) (sym (c .before .before .before .before .before .before .class-of .ensures) ∙ c .before .before .before .before .enum-told6 .given .1) _ _
-    (c .too-long2 .ensures ∙ sym (eqs .0)) (sym (eqs .1))
+    (rw (c .silent2 .ensures, c .before .before .before .cleared3 .ensures) (sym (eqs .0))) (sym (eqs .1))
 
 slice-write-store-3 : tie.Need-slice-write-store-3
 slice-write-store-3 c = omega (arith, limit-is)
 
-cleared-requires-4 : tie.Need-cleared-requires-4
-cleared-requires-4 c κs = search needs
-
-add-t25 : tie.Need-add-t25
-add-t25 c = search needs
+add-t24 : tie.Need-add-t24
+add-t24 c = search needs
 
 reporting-requires : tie.Need-reporting-requires
 reporting-requires c κs = search needs
+
+same-length : tie.Need-same-length
+same-length c = search needs
+
+returns-4 : tie.Need-returns-4
+returns-4 c = let a = c .before .before .before .before .before .before .before .before .before .args in
+    let fits : a .self .len < limit = omega (arith, limit-is) in
+    let eqs = end-fits (a .self) (a .store .now) (a .byte) (not-false (a .self .in_sysex) (c .before .before .if3 .left)) fits in
+    step-by k.End (a .self) (a .store .now) (a .byte) (sym (c .before .before .before .before .before .before .before .class-of .ensures) ∙ c .before .before .before .before .before .enum-told6 .given .1) _ _
+    (rw (c .reporting .ensures, c .before .before .before .before .cleared3 .ensures) (sym (eqs .0))) (sym (eqs .1))
+
+too-long-requires-2 : tie.Need-too-long-requires-2
+too-long-requires-2 c κs = search needs
 
 enum-told-7 : tie.Need-enum-told-7
 enum-told-7 c = search needs
@@ -127,8 +127,8 @@ enum-told-7 c = search needs
 realtime-requires : tie.Need-realtime-requires
 realtime-requires c κs = search needs
 
-same-length : tie.Need-same-length
-same-length c = search needs
+same-length-2 : tie.Need-same-length-2
+same-length-2 c = search needs
 
 returns-5 : tie.Need-returns-5
 returns-5 c = let a = c .before .before .before .before .before .before .before .before .before .args in
@@ -142,8 +142,8 @@ returns-6 c = let a = c .before .before .before .before .before .before .args in
     step-by k.Held (a .self) (a .store .now) (a .byte) (sym (c .before .before .before .before .class-of .ensures) ∙ c .before .before .enum-told2 .given .1) _ _
     (rw (c .status-byte .ensures, c .before .holding .ensures)) refl
 
-same-length-2 : tie.Need-same-length-2
-same-length-2 c = search needs
+same-length-3 : tie.Need-same-length-3
+same-length-3 c = search needs
 
 returns-7 : tie.Need-returns-7
 returns-7 c = let a = c .before .before .before .before .before .before .args in
@@ -160,15 +160,12 @@ returns-9 c = let a = c .before .before .before .before .before .before .args in
     step-by k.Tune (a .self) (a .store .now) (a .byte) (sym (c .before .before .before .before .class-of .ensures) ∙ c .before .before .enum-told5 .given .1) _ _
     (rw (c .status-byte4 .ensures, c .before .cleared2 .ensures)) refl
 
-same-length-3 : tie.Need-same-length-3
-same-length-3 c = search needs
-
 returns-10 : tie.Need-returns-10
 returns-10 c = let a = c .before .before .before .before .before .before .before .before .before .args in
-    let fits : a .self .len < limit = omega (arith, limit-is) in
-    let eqs = end-fits (a .self) (a .store .now) (a .byte) (not-false (a .self .in_sysex) (c .before .before .before .if3 .left)) fits in
+    let over : limit ≤ a .self .len = omega (arith, limit-is) in
+    let eqs = end-over (a .self) (a .store .now) (a .byte) (not-false (a .self .in_sysex) (c .before .before .if3 .left)) over in
     step-by k.End (a .self) (a .store .now) (a .byte) (sym (c .before .before .before .before .before .before .before .class-of .ensures) ∙ c .before .before .before .before .before .enum-told6 .given .1) _ _
-    (rw (c .reporting .ensures, c .before .cleared4 .ensures) (sym (eqs .0))) (sym (eqs .1))
+    (c .too-long2 .ensures ∙ sym (eqs .0)) (sym (eqs .1))
 
 returns-11 : tie.Need-returns-11
 returns-11 c = let a = c .before .before .before .before .before .args in
@@ -205,21 +202,20 @@ step-spec =
     cleared-requires-3
     silent-requires-2
     returns-3
-    too-long-requires-2
-    returns-4
     slice-write-store-3
-    cleared-requires-4
-    add-t25
+    add-t24
     reporting-requires
+    same-length
+    returns-4
+    too-long-requires-2
     enum-told-7
     realtime-requires
-    same-length
+    same-length-2
     returns-5
     returns-6
-    same-length-2
+    same-length-3
     returns-7
     returns-8
     returns-9
-    same-length-3
     returns-10
     returns-11)
