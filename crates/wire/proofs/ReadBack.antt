@@ -19,7 +19,7 @@ use Rattle.wire.specs.declared.system_common.MaybeCommonStatus.the-varia
 use Rattle.wire.specs.declared.real_time.Realtime.{Realtime}
 use Rattle.wire.specs.declared.real_time.Realtime.the-variants as t
 use Rattle.wire.specs.declared.real_time.MaybeRealtime.the-variants as v
-use Rattle.laws.proofs.Both.{both-left, both-right}
+use Rattle.laws.proofs.Tests.{both}
 use Rattle.wire.specs.Status.{dataLength}
 use Rattle.wire.specs.Channel.{statusNibble, dataBytes, channelMessage, messageInRange}
 use Rattle.wire.specs.Common.{commonStatus, commonStatusByte, commonBytes, commonInRange, commonMessage}
@@ -28,8 +28,7 @@ use Rattle.wire.proofs.DataLength.{two-low, one-middle, two-high}
 
 -- two data bytes in range
 pub both-small : (a b : ℕ) → (leb a 127 && leb b 127) ≡ true → (a ≤ 127) × (b ≤ 127)
-both-small a b h =
-    (leb-true a 127 (both-left (leb a 127) (leb b 127) h), leb-true b 127 (both-right (leb a 127) (leb b 127) h))
+both-small a b h = let d = both (leb a 127) (leb b 127) h in (leb-true a 127 (d .0), leb-true b 127 (d .1))
 
 -- the kind of a status byte: channel c of kind k
 kind : (k c : ℕ) → c < 16 → (k * 16 + c) / 16 ≡ k

@@ -1,0 +1,135 @@
+-- A list of calls reports exactly what single bytes report, because a call stops at the first byte that reports, and hands its state
+-- and store to the next call.
+use mathlib.Core.Path.{_≡_, refl, sym, _∙_, ap, ap₂, subst}
+use mathlib.Core.Bool.{Bool, true, false, not, _||_}
+use mathlib.Core.List.{List, [], _∷_, _++_}
+use Prim.Native.Nat.{ℕ, zero, suc, _+_, _≤_}
+use native.Mathlib.Omega.{arith}
+use native.Mathlib.Nat.{zero-add}
+use lib.ListN.{length, take, drop}
+use lib.Seq.{take-add}
+use Rattle.laws.proofs.Tests.{by-test}
+use Rattle.refusal.specs.Outcome.{Outcome, gives, refused}
+use Rattle.decoder.specs.declared.Decoder.{Decoder}
+use Rattle.decoder.specs.declared.MaybeReport.{MaybeReport}
+use Rattle.decoder.specs.declared.MaybeReport.the-variants as m
+use Rattle.decoder.specs.declared.Stepped.{Stepped}
+use Rattle.decoder.specs.State.{limit, sound}
+use Rattle.decoder.specs.Step.{step, stored}
+use Rattle.decoder.specs.Reports.{reportList, toldAll}
+use Rattle.decoder.specs.Call.{Walked, reports, ended, stopped, further, walk}
+use Rattle.decoder.proofs.SoundKept.{sound-kept, length-kept}
+use Rattle.decoder.proofs.Calling.{short-refused, ready-walks}
+use Rattle.damage.specs.History.{Told}
+use Rattle.damage.specs.Calls.{Call, give, lend-short, belonging, calls, singly, total, isNone, upToReport, paced}
+
+-- a byte that reports has something to report, and one that does not has nothing
+reports-some : (x : Stepped) (store : List ℕ) → isNone (toldAll store (reportList (x .interrupted) (x .report))) ≡ not (reports x)
+reports-some x store = go (x .interrupted) (x .report)
+  where
+    go : (t : Bool) (r : MaybeReport) → isNone (toldAll store (reportList t r)) ≡ not (t || Rattle.decoder.specs.Call.someReport r)
+    go true m.None = refl
+    go true (m.Some r) = refl
+    go false m.None = refl
+    go false (m.Some r) = refl
+
+none-is : (xs : List Told) → isNone xs ≡ true → xs ≡ []
+none-is [] e = refl
+none-is (x ∷ xs) e = cc
+
+-- one silent byte more in front
+abbrev heardOf : Walked → List Told
+heardOf w = toldAll (w .store) (reportList (w .fed .interrupted) (w .fed .report))
+
+-- a walk over the first n of the bytes, beside the same bytes singly
+pub record Walks (d : Decoder) (store bytes : List ℕ) (n : ℕ) (w : Walked) : Type 0 where
+  pub used : w .fed .used ≡ upToReport (take n (singly d store bytes))
+  pub heard : belonging (w .fed .used) (heardOf w) ≡ take (w .fed .used) (singly d store bytes)
+  pub idle : w .fed .used ≡ 0 → heardOf w ≡ []
+  pub rest : singly (w .fed .state) (w .store) (drop (w .fed .used) bytes) ≡ drop (w .fed .used) (singly d store bytes)
+  pub sound-after : sound (w .fed .state) ≡ true
+  pub length-after : length (w .store) ≡ length store
+
+stands : (d : Decoder) (store bytes : List ℕ) (n : ℕ) → sound d ≡ true → take n (singly d store bytes) ≡ [] → Walks d store bytes n (ended d store)
+stands d store bytes n h e =
+    record { used = sym (ap upToReport e); heard = refl; idle = λ q. refl; rest = refl; sound-after = h; length-after = refl }
+
+silent-front : (u : ℕ) (xs : List Told) → (u ≡ 0 → xs ≡ []) → belonging (1 + u) xs ≡ [] ∷ belonging u xs
+silent-front zero xs e = rw (e refl)
+silent-front (suc u) xs e = ap (λ (k : ℕ). belonging k xs) two
+  where
+    two : 1 + suc u ≡ suc (suc u)
+    two = omega arith
+
+one-more : (u : ℕ) → 1 + u ≡ suc u
+one-more u = omega arith
+
+pub walks : (n : ℕ) (d : Decoder) (store bytes : List ℕ) → sound d ≡ true → Walks d store bytes n (walk d store (take n bytes))
+unfolding walk singly
+walks zero d store bytes h = stands d store bytes zero h refl
+walks (suc n) d store [] h = stands d store [] (suc n) h refl
+walks (suc n) d store (b ∷ bs) h =
+    let next = walks n (step d b .state) (stored d store b) bs (sound-kept d b h) in
+    by-test (λ (w : Walked). Walks d store (b ∷ bs) (suc n) w) (reports (step d b)) _ _ stops (goes-on next)
+  where
+    w : Walked
+    w = walk (step d b .state) (stored d store b) (take n bs)
+
+    coming : List (List Told)
+    coming = singly (step d b .state) (stored d store b) bs
+
+    own : List Told
+    own = toldAll (stored d store b) (reportList (step d b .interrupted) (step d b .report))
+
+    stops : reports (step d b) ≡ true → Walks d store (b ∷ bs) (suc n) (stopped (step d b) (stored d store b))
+    stops e =
+        let some : isNone own ≡ false = reports-some (step d b) (stored d store b) ∙ ap not e in
+        record {
+          used = rw some;
+          heard = refl;
+          idle = λ q. absurd (omega arith);
+          rest = refl;
+          sound-after = sound-kept d b h;
+          length-after = length-kept d store b;
+        }
+
+    goes-on : Walks (step d b .state) (stored d store b) bs n (walk (step d b .state) (stored d store b) (take n bs)) → reports (step d b) ≡ false
+        → Walks d store (b ∷ bs) (suc n) (further 1 (walk (step d b .state) (stored d store b) (take n bs)))
+    goes-on next e =
+        let none : isNone own ≡ true = reports-some (step d b) (stored d store b) ∙ ap not e in
+        record {
+          used = rw (none, next .used);
+          heard =
+              silent-front (w .fed .used) (heardOf w) (next .idle) ∙ ap (λ (ys : List (List Told)). [] ∷ ys) (next .heard)
+              ∙ sym (ap (λ (k : ℕ). take k (own ∷ coming)) (one-more (w .fed .used)) ∙ ap (λ (o : List Told). o ∷ take (w .fed .used) coming) (none-is own none));
+          idle = λ q. absurd (omega arith);
+          rest = rw (one-more _) (next .rest);
+          sound-after = next .sound-after;
+          length-after = next .length-after ∙ length-kept d store b;
+        }
+
+-- the list of calls: each call's answer, and each byte's reports as far as bytes were used
+pub chunking : (cs : List Call) (d : Decoder) (store bytes : List ℕ) → sound d ≡ true → limit ≤ length store
+    → (calls cs d store bytes .answers ≡ paced cs (singly d store bytes))
+    × (calls cs d store bytes .reports ≡ take (total (calls cs d store bytes .answers)) (singly d store bytes))
+unfolding calls paced
+chunking [] d store bytes h room = (refl, refl)
+chunking (give n ∷ cs) d store bytes h room =
+    let w = walk d store (take n bytes) in
+    let k = walks n d store bytes h in
+    let used = w .fed .used in
+    let next = chunking cs (w .fed .state) (w .store) (drop used bytes) (k .sound-after) (subst (λ (l : ℕ). limit ≤ l) (sym (k .length-after)) room) in
+    let later = calls cs (w .fed .state) (w .store) (drop used bytes) in
+    let coming = singly d store bytes in
+    rw (ready-walks d store (take n bytes) room h) (
+      ap₂ (λ (u : ℕ) (rest : List (Outcome ℕ)). gives u ∷ rest) (k .used)
+          (next .0 ∙ ap (paced cs) (k .rest) ∙ ap (λ (u : ℕ). paced cs (drop u coming)) (k .used)),
+      ap₂ (λ (x y : List (List Told)). x ++ y) (k .heard) (next .1 ∙ ap (take (total (later .answers))) (k .rest))
+          ∙ sym (take-add used (total (later .answers)) coming),
+    )
+chunking (lend-short other others short ∷ cs) d store bytes h room =
+    let next = chunking cs d store bytes h room in
+    rw (short-refused d other others short) (
+      ap (λ (rest : List (Outcome ℕ)). refused 20 [] ∷ rest) (next .0),
+      next .1 ∙ ap (λ (u : ℕ). take u (singly d store bytes)) (sym (zero-add (total (calls cs d store bytes .answers)))),
+    )

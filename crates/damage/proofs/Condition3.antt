@@ -1,0 +1,153 @@
+-- Condition 3, whole. A list of calls reports what history says of the bytes that arrive. Before the run history sees what was sent.
+-- The first message wholly after the run begins with its own status byte, from which on history has forgotten the break: only
+-- whether a frame is open there is left to be told.
+use mathlib.Core.Path.{_≡_, refl, sym, _∙_, ap, ap₂, subst}
+use mathlib.Core.Bool.{Bool, true, false}
+use mathlib.Core.List.{List, [], _∷_, _++_, map, append-assoc}
+use mathlib.Core.Logic.{_⊎_, ⊎-elim}
+use Prim.Native.Nat.{ℕ, zero, suc, _+_, _≤_, _<_}
+use native.Mathlib.Omega.{arith}
+use lib.ListN.{length, take, drop}
+use Rattle.laws.specs.Choice.{pick}
+use Rattle.decoder.specs.declared.Class.{Class}
+use Rattle.decoder.specs.declared.Class.the-variants as k
+use Rattle.decoder.specs.State.{limit, fresh}
+use Rattle.decoder.specs.Step.{classOf}
+use Rattle.decoder.proofs.Classes.{Range, range-of}
+use Rattle.damage.specs.Open.{later, lastStatus, dataSince, isOpen, openAt}
+use Rattle.damage.specs.History.{Told, interrupted, interruption, heardIn, heard, meaning}
+use Rattle.damage.specs.Sent.{Message, allSendable, Tag, allTagged, Sent, bytes, intacts}
+use Rattle.damage.specs.Damage.{before, behind, arrives, fromFirst, untilFirst, breakBytes, causes, led, expected}
+use Rattle.damage.specs.Calls.{Call, calls, total, paced}
+use Rattle.damage.proofs.Ahead.{nextStatus, nextData, ahead}
+use Rattle.damage.proofs.MessagesRead.{Reads, messages-read}
+use Rattle.damage.proofs.Woven.{woven, sent-behind, Begins, begins, whole-behind, begins-with-status}
+use Rattle.damage.proofs.HistoryIsStep.{cleared-matches, history-is-step}
+use Rattle.damage.proofs.Chunking.{chunking}
+
+-- history of bytes one behind another
+meaning-append : (past xs ys : List ℕ) → meaning past (xs ++ ys) ≡ meaning past xs ++ meaning (later past xs) ys
+unfolding meaning
+meaning-append past [] ys = refl
+meaning-append past (x ∷ xs) ys = ap (λ (l : List (List Told)). heard (lastStatus past) (dataSince past) x ∷ l) (meaning-append (x ∷ past) xs ys)
+
+meaning-take : (past xs : List ℕ) (n : ℕ) → meaning past (take n xs) ≡ take n (meaning past xs)
+unfolding meaning
+meaning-take past xs zero = refl
+meaning-take past [] (suc n) = refl
+meaning-take past (x ∷ xs) (suc n) = ap (λ (l : List (List Told)). heard (lastStatus past) (dataSince past) x ∷ l) (meaning-take (x ∷ past) xs n)
+
+map-take : {A B : Type 0} (f : A → B) (l : List A) (n : ℕ) → map f (take n l) ≡ take n (map f l)
+map-take f l zero = refl
+map-take f [] (suc n) = refl
+map-take f (x ∷ l) (suc n) = ap (λ (r : List _). f x ∷ r) (map-take f l n)
+
+-- a stream is what stands ahead of its first message, and the rest
+bytes-split : (ts : List Tag) → bytes ts ≡ bytes (untilFirst ts) ++ bytes (fromFirst ts)
+bytes-split [] = refl
+bytes-split (t ∷ ts) = go (t .first) refl (bytes-split ts)
+  where
+    go : (f : Bool) → t .first ≡ f → bytes ts ≡ bytes (untilFirst ts) ++ bytes (fromFirst ts)
+        → bytes (t ∷ ts) ≡ bytes (untilFirst (t ∷ ts)) ++ bytes (fromFirst (t ∷ ts))
+    go true e r = rw e
+    go false e r = rw e (ap (λ (l : List ℕ). t .byte ∷ l) r)
+
+alone : (t : Bool) → interruption t ≡ interruption t ++ []
+alone true = refl
+alone false = refl
+
+in-front : (t : Bool) (x : List Told) → interruption t ++ x ≡ pick t (interrupted ∷ x) x
+in-front true x = refl
+in-front false x = refl
+
+-- a status byte 80 to F6 reports 18 where a frame is open, and then what it reports in a stream that begins with it
+led-by : (c : Class) (v : ℕ) (xs : List ℕ) (b : ℕ) → Range c b → 0x80 ≤ b → b < 0xF7
+    → (heardIn c v xs b ≡ interruption (isOpen v xs) ++ heardIn c 0 [] b) × (nextStatus c v b ≡ nextStatus c 0 b) × (nextData c xs b ≡ nextData c [] b)
+led-by k.Data v xs b r l h = absurd (omega arith)
+led-by k.Held v xs b r l h = (alone (isOpen v xs), refl, refl)
+led-by k.Start v xs b r l h = (alone (isOpen v xs), refl, refl)
+led-by k.Undefined v xs b r l h = (alone (isOpen v xs), refl, refl)
+led-by k.Tune v xs b r l h = (refl, refl, refl)
+led-by k.End v xs b r l h = absurd (omega arith)
+led-by k.Realtime v xs b r l h = absurd (omega arith)
+
+-- a stream that begins with a message's status byte, behind any bytes: its intact reports, led by one 18 if a frame is open there
+begun-read : (t : Tag) (ts us : List Tag) → 0x80 ≤ t .byte → t .byte < 0xF7 → Reads 0 [] (t ∷ ts) → Sent ts us → (past : List ℕ)
+    → meaning past (bytes (t ∷ us)) ≡ led (openAt past) (intacts (t ∷ us))
+unfolding meaning heard
+begun-read t ts us low high r w past =
+    let b = t .byte in
+    let c = classOf b in
+    let v = lastStatus past in
+    let xs = dataSince past in
+    let lead = led-by c v xs b (range-of b) low high in
+    let same = ahead c past b (range-of b) in
+    ap₂ (λ (x : List Told) (rest : List (List Told)). x ∷ rest)
+    (lead .0 ∙ ap (λ (x : List Told). interruption (isOpen v xs) ++ x) (r .0) ∙ in-front (isOpen v xs) (t .intact))
+    (woven w (b ∷ past) (rw (same .0 ∙ lead .1, same .1 ∙ lead .2) (r .1)))
+
+-- from the first message on
+rest-read : (ms : List Message) → allSendable ms ≡ true → (j : ℕ) (us : List Tag) → Sent (drop j (allTagged ms)) us → (past : List ℕ)
+    → meaning past (bytes (fromFirst us)) ≡ led (openAt past) (intacts (fromFirst us))
+unfolding meaning
+rest-read ms ok j us w past = ⊎-elim none some (begins w)
+  where
+    none : fromFirst us ≡ [] → meaning past (bytes (fromFirst us)) ≡ led (openAt past) (intacts (fromFirst us))
+    none e = rw e
+
+    some : Begins (drop j (allTagged ms)) us → meaning past (bytes (fromFirst us)) ≡ led (openAt past) (intacts (fromFirst us))
+    some r =
+        let all = whole-behind ms ok j in
+        let same : allTagged (all .messages) ≡ r .head ∷ r .own-rest = sym (all .is) ∙ r .own-is in
+        let range = begins-with-status (all .messages) (all .ok) (r .head) (r .own-rest) same in
+        let reads = messages-read (all .messages) (all .ok) 0 [] refl in
+        rw (r .is)
+        (begun-read (r .head) (r .own-rest) (r .rest) (range .0) (range .1) (subst (λ (l : List Tag). Reads 0 [] l) same reads) (r .sent) past)
+
+-- what history says of all that arrives is what condition 3 asks for
+pub history-of-damage : (ms : List Message) → allSendable ms ≡ true → (sent : List Tag) → Sent (allTagged ms) sent → (i n : ℕ) (new : List ℕ)
+    → meaning [] (arrives i n new sent) ≡ expected i n new sent
+history-of-damage ms ok sent w i n new =
+    ap (λ (l : List ℕ). meaning [] (B ++ l)) (ap (λ (l : List ℕ). new ++ l) (bytes-split (behind i n sent)) ∙ sym (append-assoc new U F))
+    ∙ meaning-append [] B (K ++ F)
+    ∙ ap₂ (λ (x y : List (List Told)). x ++ y) intact-before
+    (meaning-append (later [] B) K F
+    ∙ ap (λ (y : List (List Told)). causes i n new sent ++ y) (rest-read ms ok (cut .0) (behind i n sent) (cut .1) (later (later [] B) K)))
+  where
+    B : List ℕ
+    B = bytes (before i sent)
+
+    U : List ℕ
+    U = bytes (untilFirst (behind i n sent))
+
+    F : List ℕ
+    F = bytes (fromFirst (behind i n sent))
+
+    K : List ℕ
+    K = breakBytes i n new sent
+
+    cut : (j : ℕ) × Sent (drop j (allTagged ms)) (behind i n sent)
+    cut = sent-behind w (i + n)
+
+    intact-before : meaning [] B ≡ intacts (before i sent)
+    intact-before =
+        ap (meaning []) (map-take (λ (t : Tag). t .byte) sent i) ∙ meaning-take [] (bytes sent) i
+        ∙ ap (take i) (woven w [] (messages-read ms ok 0 [] refl)) ∙ sym (map-take (λ (t : Tag). t .intact) sent i)
+
+-- CONDITION 3. For all in-range messages of at most the frame limit's length, sent with real-time bytes anywhere; for every run of
+-- n bytes from place i on and everything that comes in its place; for every store of at least the limit's length, whatever it
+-- holds; and for every list of calls from a fresh decoder, refused ones included: the reports, byte by byte and as far as bytes
+-- were used, are exactly the expected ones; and each call used its bytes up to the first that reports, or all, or was lent too
+-- short a store and refused with 20
+pub condition-3 : (ms : List Message) → allSendable ms ≡ true → (sent : List Tag) → Sent (allTagged ms) sent → (i n : ℕ) (new store : List ℕ)
+    → limit ≤ length store → (cs : List Call)
+    → (calls cs fresh store (arrives i n new sent) .reports
+    ≡ take (total (calls cs fresh store (arrives i n new sent) .answers)) (expected i n new sent))
+    × (calls cs fresh store (arrives i n new sent) .answers ≡ paced cs (expected i n new sent))
+condition-3 ms ok sent w i n new store room cs =
+    let came = arrives i n new sent in
+    let r = chunking cs fresh store came refl room in
+    let says = history-is-step [] fresh store came (cleared-matches fresh store room) ∙ history-of-damage ms ok sent w i n new in (
+      r .1 ∙ ap (take (total (calls cs fresh store came .answers))) says,
+      r .0 ∙ ap (paced cs) says,
+    )

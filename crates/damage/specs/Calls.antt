@@ -1,0 +1,90 @@
+-- A list of decoder calls over one store, and what it comes to.
+use mathlib.Core.Bool.{Bool, true, false}
+use mathlib.Core.List.{List, [], _∷_, _++_}
+use Prim.Native.Nat.{ℕ, zero, suc, _+_, _<_}
+use lib.ListN.{length, take, drop, replicate}
+use Rattle.laws.specs.Choice.{pick}
+use Rattle.refusal.specs.Outcome.{Outcome, gives, refused}
+use Rattle.decoder.specs.declared.Decoder.{Decoder}
+use Rattle.decoder.specs.State.{limit}
+use Rattle.decoder.specs.Step.{step, stored}
+use Rattle.decoder.specs.Call.{Walked, call, storeOf}
+use Rattle.decoder.specs.Reports.{reportList, toldAll}
+use Rattle.damage.specs.History.{Told}
+
+-- a call gets some of the bytes that come next, as many as are left where fewer are; or it is lent another store, too short, with
+-- any bytes
+pub data Call : Type 0 where
+  give : ℕ → Call
+  lend-short : (store bytes : List ℕ) → length store < limit → Call
+
+-- what a list of calls comes to: for each call how many bytes it used, or its refusal; and for each byte used its reports
+pub record Heard : Type 0 where
+  pub answers : List (Outcome ℕ)
+  pub reports : List (List Told)
+
+-- a call's reports "belong to the last byte that their call used"; reports of a call that used none would stand alone
+abbrev pub belonging : ℕ → List Told → List (List Told)
+belonging zero [] = []
+belonging zero (x ∷ xs) = (x ∷ xs) ∷ []
+belonging (suc n) xs = replicate n [] ++ (xs ∷ [])
+
+-- what a call's answer is to its caller: the count of bytes used, or the refusal
+abbrev pub usedOf : Outcome Walked → Outcome ℕ
+usedOf (gives w) = gives (w .fed .used)
+usedOf (refused n values) = refused n values
+
+abbrev pub countOf : Outcome ℕ → ℕ
+countOf (gives n) = n
+countOf (refused n values) = 0
+
+-- its reports, a frame's bytes read from the store at that answer; a refused call has none
+abbrev pub reportsOf : Outcome Walked → List (List Told)
+reportsOf (gives w) = belonging (w .fed .used) (toldAll (w .store) (reportList (w .fed .interrupted) (w .fed .report)))
+reportsOf (refused n values) = []
+
+-- the state for the next call; after a refused call it is as it was
+abbrev pub stateOf : Outcome Walked → Decoder → Decoder
+stateOf (gives w) d = w .fed .state
+stateOf (refused n values) d = d
+
+abbrev pub withCall : Outcome Walked → Heard → Heard
+withCall o rest = record { answers = usedOf o ∷ rest .answers; reports = reportsOf o ++ rest .reports }
+
+-- each call gets the state that the last one returned, the store as it was left, and bytes that were not used yet. A call that is
+-- lent another store leaves this one and the bytes to come as they are
+unfoldable pub calls : List Call → Decoder → List ℕ → List ℕ → Heard
+calls [] d store bytes = record { answers = []; reports = [] }
+calls (give n ∷ cs) d store bytes =
+    let o = call d store (take n bytes) in
+    withCall o (calls cs (stateOf o d) (storeOf o store) (drop (countOf (usedOf o)) bytes))
+calls (lend-short other others short ∷ cs) d store bytes =
+    let o = call d other others in
+    withCall o (calls cs (stateOf o d) store bytes)
+
+-- what the bytes report if they come singly: each byte's reports, a frame's bytes read from the store that it leaves
+unfoldable pub singly : Decoder → List ℕ → List ℕ → List (List Told)
+singly d store [] = []
+singly d store (b ∷ bs) =
+    toldAll (stored d store b) (reportList (step d b .interrupted) (step d b .report)) ∷ singly (step d b .state) (stored d store b) bs
+
+-- how many bytes all the calls used
+abbrev pub total : List (Outcome ℕ) → ℕ
+total [] = 0
+total (a ∷ rest) = countOf a + total rest
+
+abbrev pub isNone : List Told → Bool
+isNone [] = true
+isNone (x ∷ xs) = false
+
+-- how many bytes it takes to the first that reports, itself counted, or all
+abbrev pub upToReport : List (List Told) → ℕ
+upToReport [] = 0
+upToReport (x ∷ xs) = pick (isNone x) (1 + upToReport xs) 1
+
+-- progress: what the calls answer if each byte to come reports so. A call uses its bytes up to the first that reports, or all; one
+-- that is lent too short a store is refused with 20
+unfoldable pub paced : List Call → List (List Told) → List (Outcome ℕ)
+paced [] coming = []
+paced (give n ∷ cs) coming = gives (upToReport (take n coming)) ∷ paced cs (drop (upToReport (take n coming)) coming)
+paced (lend-short other others short ∷ cs) coming = refused 20 [] ∷ paced cs coming

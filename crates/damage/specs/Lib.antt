@@ -1,0 +1,5 @@
+pub mod Open
+pub mod History
+pub mod Sent
+pub mod Damage
+pub mod Calls

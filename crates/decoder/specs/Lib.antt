@@ -1,0 +1,4 @@
+pub mod State
+pub mod Step
+pub mod Call
+pub mod Reports
