@@ -19,7 +19,7 @@ use Rattle.decoder.specs.declared.Class.the-variants as k
 use Rattle.decoder.specs.declared.Stepped.{Stepped}
 use Rattle.decoder.specs.State.{limit, sound, waitsSoundly}
 use Rattle.decoder.specs.Step.{classOf, stepIn, step, storedIn, stored, collect, longer, kept}
-use Rattle.decoder.proofs.Limit.{room-for-two}
+use Rattle.decoder.proofs.Limit.{room-for-three}
 use Rattle.decoder.proofs.Classes.{Range, range-of}
 
 -- a byte that waits for data takes data
@@ -103,7 +103,7 @@ sound-kept d b h = go (classOf b) (range-of b)
         (λ e. by-test P (ltb (d .len) limit) _ _ (λ l. longer-sound d (ltb-true _ _ l)) (λ l. refl))
         (λ e. collect-sound d (d .status) b h (closed-part d h e .1) r)
     go k.Held r = rw (lt-ltb 0 (dataLength b) (held-takes-data b r))
-    go k.Start r = rw (le-leb 1 limit (omega (arith, room-for-two)))
+    go k.Start r = rw (le-leb 1 limit (omega (arith, room-for-three)))
     go k.Undefined r = refl
     go k.Tune r = refl
     go k.End r = by-test P (d .in_sysex) _ _ (λ e. by-test P (ltb (d .len) limit) _ _ (λ l. refl) (λ l. refl)) (λ e. refl)

@@ -1,6 +1,6 @@
 -- `Decoder::step` meets its contract: each arm does what the byte's class does.
 use Rattle.decoder.proofs.Steps.{data-fits, data-over, data-plain, end-fits, end-over, end-plain, step-by}
-use Rattle.decoder.proofs.Limit.{limit-is, room-for-two}
+use Rattle.decoder.proofs.Limit.{limit-is, room-for-three}
 use Rattle.decoder.specs.State.{limit}
 use Rattle.decoder.specs.declared.Class.the-variants as k
 use borrow.Author.Tests.{not-true, not-false}
@@ -59,7 +59,7 @@ enum-told-3 : tie.Need-enum-told-3
 enum-told-3 c = search needs
 
 slice-write-store-2 : tie.Need-slice-write-store-2
-slice-write-store-2 c = omega (arith, room-for-two)
+slice-write-store-2 c = omega (arith, room-for-three)
 
 opened-requires : tie.Need-opened-requires
 opened-requires c κs = search needs
