@@ -19,23 +19,11 @@ use Rattle.damage.specs.History.{Told, interrupted, interruption, heardI
 use Rattle.damage.specs.Sent.{Message, allSendable, Tag, allTagged, Sent, bytes, intacts}
 use Rattle.damage.specs.Damage.{before, behind, arrives, fromFirst, untilFirst, breakBytes, causes, led, expected}
 use Rattle.damage.specs.Calls.{Call, calls, total, paced}
-use Rattle.damage.proofs.Ahead.{nextStatus, nextData, ahead}
+use Rattle.damage.proofs.Ahead.{nextStatus, nextData, ahead, meaning-append, meaning-take}
 use Rattle.damage.proofs.MessagesRead.{Reads, messages-read}
 use Rattle.damage.proofs.Woven.{woven, sent-behind, Begins, begins, whole-behind, begins-with-status}
 use Rattle.damage.proofs.HistoryIsStep.{cleared-matches, history-is-step}
 use Rattle.damage.proofs.Chunking.{chunking}
-
--- history of bytes one behind another
-meaning-append : (past xs ys : List ℕ) → meaning past (xs ++ ys) ≡ meaning past xs ++ meaning (later past xs) ys
-unfolding meaning
-meaning-append past [] ys = refl
-meaning-append past (x ∷ xs) ys = ap (λ (l : List (List Told)). heard (lastStatus past) (dataSince past) x ∷ l) (meaning-append (x ∷ past) xs ys)
-
-meaning-take : (past xs : List ℕ) (n : ℕ) → meaning past (take n xs) ≡ take n (meaning past xs)
-unfolding meaning
-meaning-take past xs zero = refl
-meaning-take past [] (suc n) = refl
-meaning-take past (x ∷ xs) (suc n) = ap (λ (l : List (List Told)). heard (lastStatus past) (dataSince past) x ∷ l) (meaning-take (x ∷ past) xs n)
 
 map-take : {A B : Type 0} (f : A → B) (l : List A) (n : ℕ) → map f (take n l) ≡ take n (map f l)
 map-take f l zero = refl

@@ -5,3 +5,5 @@ pub mod Chunking
 pub mod MessagesRead
 pub mod Woven
 pub mod Condition3
+pub mod FrameLimit
+pub mod Rows
