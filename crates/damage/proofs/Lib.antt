@@ -7,3 +7,5 @@ pub mod Woven
 pub mod Condition3
 pub mod FrameLimit
 pub mod Rows
+pub mod WritersRead
+pub mod Example
