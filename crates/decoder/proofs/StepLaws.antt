@@ -1,5 +1,5 @@
 -- What one byte does, said as laws: each follows from the step by its class.
-use mathlib.Core.Path.{_≡_, refl, ap}
+use mathlib.Core.Path.{_≡_, refl, sym, _∙_, ap}
 use mathlib.Core.Bool.{Bool, true, false}
 use mathlib.Core.List.{List, [], _∷_}
 use Prim.Native.Nat.{ℕ, _+_, _≤_, _<_}
@@ -8,7 +8,7 @@ use lib.Dec.{ltb, leb, eqb}
 use lib.ListN.{length}
 use borrow.Author.Tests.{lt-ltb, le-ltb, le-leb}
 use Rattle.laws.specs.Choice.{pick}
-use Rattle.laws.proofs.Tests.{by-test}
+use Rattle.laws.proofs.Tests.{by-test, true-is-not-false}
 use Rattle.wire.specs.Status.{dataLength}
 use Rattle.wire.specs.Realtime.{realtimeOf}
 use Rattle.wire.specs.declared.system_common.SystemCommon.the-variants as y
@@ -26,7 +26,7 @@ use Rattle.decoder.specs.State.{limit, reset}
 use Rattle.decoder.specs.Step.{classOf, stepIn, step, stored, messageReport, realtimeReport, collect, kept}
 use Rattle.decoder.specs.Reports.{ownReport, reportList}
 use Rattle.decoder.specs.declared.Fed.{Fed}
-use Rattle.decoder.specs.Call.{reports, stopped, further, walk}
+use Rattle.decoder.specs.Call.{someReport, reports, stopped, further, walk}
 use Rattle.decoder.proofs.Classes.{Range, range-of, class-is}
 
 -- F4, F5, F6 and F7 clear running status, whatever the state
@@ -52,6 +52,16 @@ common-status-lost b h = rw (le-ltb b 0xF0 h, le-leb 0x80 b (omega arith))
 
 pub channel-status-kept : (b : ℕ) → 0x80 ≤ b → b < 0xF0 → kept b ≡ s.Status b
 channel-status-kept b l h = rw (lt-ltb b 0xF0 h, le-leb 0x80 b l)
+
+pub whole-common-clears : (d : Decoder) (v b : ℕ) → 0xF0 ≤ v → someReport (collect (s.Status v) d b .report) ≡ true
+    → collect (s.Status v) d b .state .status ≡ s.None
+whole-common-clears d v b h =
+    by-test P (eqb (d .have) 0) _ _
+    (λ e. by-test P (leb (dataLength v) 1) _ _ (λ l q. common-status-lost v h) (λ l q. absurd (true-is-not-false (sym q))))
+    (λ e q. common-status-lost v h)
+  where
+    P : Stepped → Type 0
+    P x = someReport (x .report) ≡ true → x .state .status ≡ s.None
 
 -- real-time bytes touch no state and no store
 pub realtime-touches-nothing : (d : Decoder) (store : List ℕ) (b : ℕ) → 0xF8 ≤ b → (step d b .state ≡ d) × (stored d store b ≡ store)
@@ -81,6 +91,17 @@ status-bytes-keep-data d b h = go (classOf b) (range-of b)
     go k.Tune r = same
     go k.End r = by-test P (d .in_sysex) _ _ (λ e. by-test P (ltb (d .len) limit) _ _ (λ l. same) (λ l. same)) (λ e. same)
     go k.Realtime r = record { first = refl; second = refl }
+
+pub frame-bytes-keep-data : (d : Decoder) (b : ℕ) → d .in_sysex ≡ true → b < 0x80 → Kept d (step d b .state)
+unfolding step
+frame-bytes-keep-data d b inside h =
+    rw (class-is b k.Data h)
+    (by-test P (d .in_sysex) _ _
+    (λ e. by-test P (ltb (d .len) limit) _ _ (λ l. record { first = refl; second = refl }) (λ l. record { first = refl; second = refl }))
+    (λ e. absurd (true-is-not-false (sym inside ∙ e))))
+  where
+    P : Stepped → Type 0
+    P x = Kept d (x .state)
 
 pub reset-keeps-data : (d : Decoder) → Kept d (reset d)
 reset-keeps-data d = record { first = refl; second = refl }
