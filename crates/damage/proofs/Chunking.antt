@@ -42,7 +42,7 @@ abbrev heardOf : Walked → List Told
 heardOf w = toldAll (w .store) (reportList (w .fed .interrupted) (w .fed .report))
 
 -- a walk over the first n of the bytes, beside the same bytes singly
-pub record Walks (d : Decoder) (store bytes : List ℕ) (n : ℕ) (w : Walked) : Type 0 where
+pub record Beside (d : Decoder) (store bytes : List ℕ) (n : ℕ) (w : Walked) : Type 0 where
   pub used : w .fed .used ≡ upToReport (take n (singly d store bytes))
   pub heard : belonging (w .fed .used) (heardOf w) ≡ take (w .fed .used) (singly d store bytes)
   pub idle : w .fed .used ≡ 0 → heardOf w ≡ []
@@ -50,7 +50,7 @@ pub record Walks (d : Decoder) (store bytes : List ℕ) (n : ℕ) (w : Walked) :
   pub sound-after : sound (w .fed .state) ≡ true
   pub length-after : length (w .store) ≡ length store
 
-stands : (d : Decoder) (store bytes : List ℕ) (n : ℕ) → sound d ≡ true → take n (singly d store bytes) ≡ [] → Walks d store bytes n (ended d store)
+stands : (d : Decoder) (store bytes : List ℕ) (n : ℕ) → sound d ≡ true → take n (singly d store bytes) ≡ [] → Beside d store bytes n (ended d store)
 stands d store bytes n h e =
     record { used = sym (ap upToReport e); heard = refl; idle = λ q. refl; rest = refl; sound-after = h; length-after = refl }
 
@@ -64,13 +64,13 @@ silent-front (suc u) xs e = ap (λ (k : ℕ). belonging k xs) two
 one-more : (u : ℕ) → 1 + u ≡ suc u
 one-more u = omega arith
 
-pub walks : (n : ℕ) (d : Decoder) (store bytes : List ℕ) → sound d ≡ true → Walks d store bytes n (walk d store (take n bytes))
+pub walks : (n : ℕ) (d : Decoder) (store bytes : List ℕ) → sound d ≡ true → Beside d store bytes n (walk d store (take n bytes))
 unfolding walk singly
 walks zero d store bytes h = stands d store bytes zero h refl
 walks (suc n) d store [] h = stands d store [] (suc n) h refl
 walks (suc n) d store (b ∷ bs) h =
     let next = walks n (step d b .state) (stored d store b) bs (sound-kept d b h) in
-    by-test (λ (w : Walked). Walks d store (b ∷ bs) (suc n) w) (reports (step d b)) _ _ stops (goes-on next)
+    by-test (λ (w : Walked). Beside d store (b ∷ bs) (suc n) w) (reports (step d b)) _ _ stops (goes-on next)
   where
     w : Walked
     w = walk (step d b .state) (stored d store b) (take n bs)
@@ -81,7 +81,7 @@ walks (suc n) d store (b ∷ bs) h =
     own : List Told
     own = toldAll (stored d store b) (reportList (step d b .interrupted) (step d b .report))
 
-    stops : reports (step d b) ≡ true → Walks d store (b ∷ bs) (suc n) (stopped (step d b) (stored d store b))
+    stops : reports (step d b) ≡ true → Beside d store (b ∷ bs) (suc n) (stopped (step d b) (stored d store b))
     stops e =
         let some : isNone own ≡ false = reports-some (step d b) (stored d store b) ∙ ap not e in
         record {
@@ -93,8 +93,8 @@ walks (suc n) d store (b ∷ bs) h =
           length-after = length-kept d store b;
         }
 
-    goes-on : Walks (step d b .state) (stored d store b) bs n (walk (step d b .state) (stored d store b) (take n bs)) → reports (step d b) ≡ false
-        → Walks d store (b ∷ bs) (suc n) (further 1 (walk (step d b .state) (stored d store b) (take n bs)))
+    goes-on : Beside (step d b .state) (stored d store b) bs n (walk (step d b .state) (stored d store b) (take n bs)) → reports (step d b) ≡ false
+        → Beside d store (b ∷ bs) (suc n) (further 1 (walk (step d b .state) (stored d store b) (take n bs)))
     goes-on next e =
         let none : isNone own ≡ true = reports-some (step d b) (stored d store b) ∙ ap not e in
         record {

@@ -11,31 +11,20 @@ use lib.ListN.{length, take, drop}
 use Rattle.laws.specs.Choice.{pick}
 use Rattle.decoder.specs.declared.Class.{Class}
 use Rattle.decoder.specs.declared.Class.the-variants as k
-use Rattle.decoder.specs.State.{limit, fresh}
+use Rattle.decoder.specs.declared.Decoder.{Decoder}
+use Rattle.decoder.specs.State.{limit, fresh, reset}
 use Rattle.decoder.specs.Step.{classOf}
 use Rattle.decoder.proofs.Classes.{Range, range-of}
 use Rattle.damage.specs.Open.{later, lastStatus, dataSince, isOpen, openAt}
 use Rattle.damage.specs.History.{Told, interrupted, interruption, heardIn, heard, meaning}
 use Rattle.damage.specs.Sent.{Message, allSendable, Tag, allTagged, Sent, bytes, intacts}
 use Rattle.damage.specs.Damage.{before, behind, arrives, fromFirst, untilFirst, breakBytes, causes, led, expected}
-use Rattle.damage.specs.Calls.{Call, calls, total, paced}
-use Rattle.damage.proofs.Ahead.{nextStatus, nextData, ahead}
+use Rattle.damage.specs.Calls.{Call, Heard, calls, total, paced}
+use Rattle.damage.proofs.Ahead.{nextStatus, nextData, ahead, meaning-append, meaning-take}
 use Rattle.damage.proofs.MessagesRead.{Reads, messages-read}
 use Rattle.damage.proofs.Woven.{woven, sent-behind, Begins, begins, whole-behind, begins-with-status}
 use Rattle.damage.proofs.HistoryIsStep.{cleared-matches, history-is-step}
 use Rattle.damage.proofs.Chunking.{chunking}
-
--- history of bytes one behind another
-meaning-append : (past xs ys : List ℕ) → meaning past (xs ++ ys) ≡ meaning past xs ++ meaning (later past xs) ys
-unfolding meaning
-meaning-append past [] ys = refl
-meaning-append past (x ∷ xs) ys = ap (λ (l : List (List Told)). heard (lastStatus past) (dataSince past) x ∷ l) (meaning-append (x ∷ past) xs ys)
-
-meaning-take : (past xs : List ℕ) (n : ℕ) → meaning past (take n xs) ≡ take n (meaning past xs)
-unfolding meaning
-meaning-take past xs zero = refl
-meaning-take past [] (suc n) = refl
-meaning-take past (x ∷ xs) (suc n) = ap (λ (l : List (List Told)). heard (lastStatus past) (dataSince past) x ∷ l) (meaning-take (x ∷ past) xs n)
 
 map-take : {A B : Type 0} (f : A → B) (l : List A) (n : ℕ) → map f (take n l) ≡ take n (map f l)
 map-take f l zero = refl
@@ -134,6 +123,22 @@ history-of-damage ms ok sent w i n new =
         ap (meaning []) (map-take (λ (t : Tag). t .byte) sent i) ∙ meaning-take [] (bytes sent) i
         ∙ ap (take i) (woven w [] (messages-read ms ok 0 [] refl)) ∙ sym (map-take (λ (t : Tag). t .intact) sent i)
 
+-- what a list of calls comes to if each byte to come reports so: its reports as far as bytes were used, and how many each call used
+abbrev pub Reports : List Call → List (List Told) → Heard → Type 0
+Reports cs coming h = (h .reports ≡ take (total (h .answers)) coming) × (h .answers ≡ paced cs coming)
+
+-- the same from any state that a reset leaves
+pub condition-3-after-reset : (d : Decoder) (ms : List Message) → allSendable ms ≡ true → (sent : List Tag) → Sent (allTagged ms) sent
+    → (i n : ℕ) (new store : List ℕ) → limit ≤ length store → (cs : List Call)
+    → Reports cs (expected i n new sent) (calls cs (reset d) store (arrives i n new sent))
+condition-3-after-reset d ms ok sent w i n new store room cs =
+    let came = arrives i n new sent in
+    let r = chunking cs (reset d) store came refl room in
+    let says = history-is-step [] (reset d) store came (cleared-matches d store room) ∙ history-of-damage ms ok sent w i n new in (
+      r .1 ∙ ap (take (total (calls cs (reset d) store came .answers))) says,
+      r .0 ∙ ap (paced cs) says,
+    )
+
 -- CONDITION 3. For all in-range messages of at most the frame limit's length, sent with real-time bytes anywhere; for every run of
 -- n bytes from place i on and everything that comes in its place; for every store of at least the limit's length, whatever it
 -- holds; and for every list of calls from a fresh decoder, refused ones included: the reports, byte by byte and as far as bytes
@@ -144,10 +149,4 @@ pub condition-3 : (ms : List Message) → allSendable ms ≡ true → (sent : Li
     → (calls cs fresh store (arrives i n new sent) .reports
     ≡ take (total (calls cs fresh store (arrives i n new sent) .answers)) (expected i n new sent))
     × (calls cs fresh store (arrives i n new sent) .answers ≡ paced cs (expected i n new sent))
-condition-3 ms ok sent w i n new store room cs =
-    let came = arrives i n new sent in
-    let r = chunking cs fresh store came refl room in
-    let says = history-is-step [] fresh store came (cleared-matches fresh store room) ∙ history-of-damage ms ok sent w i n new in (
-      r .1 ∙ ap (take (total (calls cs fresh store came .answers))) says,
-      r .0 ∙ ap (paced cs) says,
-    )
+condition-3 = condition-3-after-reset fresh

@@ -27,7 +27,7 @@ use Rattle.decoder.specs.declared.Stepped.{Stepped}
 use Rattle.decoder.specs.State.{limit, cleared}
 use Rattle.decoder.specs.Step.{classOf, stepIn, step, storedIn, stored, realtimeReport, silent, longer, tooLong, collect}
 use Rattle.decoder.specs.Reports.{ownReport, reportList, toldAll}
-use Rattle.decoder.proofs.Limit.{room-for-two}
+use Rattle.decoder.proofs.Limit.{room-for-three}
 use Rattle.decoder.proofs.Classes.{Range, range-of}
 use Rattle.decoder.proofs.SoundKept.{held-takes-data}
 use Rattle.decoder.proofs.Steps.{data-fits, data-over, data-plain, end-fits, end-over, end-plain}
@@ -189,8 +189,8 @@ module _ (v : ℕ) (xs : List ℕ) (d : Decoder) (store : List ℕ) (g : Matches
       none : pending b [] ≡ 1 → ⊥
       none q = omega (arith, nothing-pending b)
   good k.Start h =
-      let some : 0 < length store = omega (arith, g .room, room-for-two) in
-      let begun : isOpen b [] ≡ true = rw (h, lt-ltb 0 limit (omega (arith, room-for-two))) in (
+      let some : 0 < length store = omega (arith, g .room, room-for-three) in
+      let begun : isOpen b [] ≡ true = rw (h, lt-ltb 0 limit (omega (arith, room-for-three))) in (
         unreported (set store 0 b),
         record {
           room = rw (length-set store 0 b) (g .room);

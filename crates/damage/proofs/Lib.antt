@@ -5,3 +5,8 @@ pub mod Chunking
 pub mod MessagesRead
 pub mod Woven
 pub mod Condition3
+pub mod FrameLimit
+pub mod Rows
+pub mod WritersRead
+pub mod Example
+pub mod Condition3OfCode

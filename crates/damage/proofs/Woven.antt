@@ -25,7 +25,7 @@ use Rattle.damage.proofs.Ahead.{ahead}
 use Rattle.damage.proofs.MessagesRead.{Reads}
 
 -- a real-time byte reports itself
-realtime-heard : (v : ℕ) (xs : List ℕ) (b : ℕ) → 0xF8 ≤ b → heard v xs b ≡ heardRealtime (realtimeOf b)
+pub realtime-heard : (v : ℕ) (xs : List ℕ) (b : ℕ) → 0xF8 ≤ b → heard v xs b ≡ heardRealtime (realtimeOf b)
 unfolding heard
 realtime-heard v xs b h = rw (class-is b k.Realtime h)
 

@@ -3,3 +3,4 @@ pub mod History
 pub mod Sent
 pub mod Damage
 pub mod Calls
+pub mod Made

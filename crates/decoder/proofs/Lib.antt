@@ -4,3 +4,4 @@ pub mod SoundKept
 pub mod Steps
 pub mod Walking
 pub mod Calling
+pub mod StepLaws

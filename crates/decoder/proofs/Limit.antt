@@ -1,4 +1,4 @@
--- The two things that proofs know of the frame limit: its value, for the code's constant, and that F0 and F7 fit.
+-- The two things that proofs know of the frame limit: its value, for the code's constant, and that every message but a frame fits.
 use mathlib.Core.Path.{_≡_, refl}
 use Prim.Native.Nat.{_≤_}
 use native.Mathlib.Omega.{arith}
@@ -8,6 +8,6 @@ pub limit-is : limit ≡ 2354
 unfolding limit
 limit-is = refl
 
-pub room-for-two : 2 ≤ limit
+pub room-for-three : 3 ≤ limit
 unfolding limit
-room-for-two = omega arith
+room-for-three = omega arith

@@ -1,6 +1,6 @@
 -- A sound state stays sound and the store keeps its length, whatever byte comes, because every state that a byte leaves is cleared,
 -- holds a status that takes data, or has one byte more that was tested to fit.
-use mathlib.Core.Path.{_≡_, refl}
+use mathlib.Core.Path.{_≡_, refl, ap, _∙_}
 use mathlib.Core.Bool.{Bool, true, false, _&&_}
 use mathlib.Core.List.{List}
 use Prim.Native.Nat.{ℕ, _+_, _≤_, _<_}
@@ -10,6 +10,7 @@ use lib.ListN.{length, set, length-set}
 use borrow.Author.Tests.{ltb-true, ltb-false, leb-true, eqb-true, lt-ltb, le-leb, eq-eqb, eqb-false, leb-false, le-ltb}
 use Rattle.laws.specs.Choice.{pick}
 use Rattle.laws.proofs.Tests.{by-test, both}
+use Rattle.wire.proofs.DataLength.{none-of-data, none-of-start, none-above}
 use Rattle.wire.specs.Status.{dataLength, isChannelStatus}
 use Rattle.decoder.specs.declared.RunningStatus.{RunningStatus}
 use Rattle.decoder.specs.declared.RunningStatus.the-variants as s
@@ -19,7 +20,7 @@ use Rattle.decoder.specs.declared.Class.the-variants as k
 use Rattle.decoder.specs.declared.Stepped.{Stepped}
 use Rattle.decoder.specs.State.{limit, sound, waitsSoundly}
 use Rattle.decoder.specs.Step.{classOf, stepIn, step, storedIn, stored, collect, longer, kept}
-use Rattle.decoder.proofs.Limit.{room-for-two}
+use Rattle.decoder.proofs.Limit.{room-for-three}
 use Rattle.decoder.proofs.Classes.{Range, range-of}
 
 -- a byte that waits for data takes data
@@ -38,6 +39,19 @@ held-takes-data b h =
   where
     none-left : 0xF0 ≤ b → (b ≡ 0xF1 → ⊥) → (b ≡ 0xF2 → ⊥) → (b ≡ 0xF3 → ⊥) → ⊥
     none-left l p q r = let n = h .2 in omega arith
+
+-- and only such a byte does: 80 to EF, F1 to F3
+pub takes-data-held : (b : ℕ) → 0 < dataLength b → Range k.Held b
+takes-data-held b h = go (classOf b) (range-of b)
+  where
+    go : (c : Class) → Range c b → Range k.Held b
+    go k.Data r = absurd (omega (arith, none-of-data b r))
+    go k.Held r = r
+    go k.Start r = absurd (omega (arith, ap dataLength r ∙ none-of-start))
+    go k.Undefined r = absurd (omega (arith, none-above b (r .0)))
+    go k.Tune r = absurd (omega (arith, none-above b (omega arith)))
+    go k.End r = absurd (omega (arith, none-above b (omega arith)))
+    go k.Realtime r = absurd (omega (arith, none-above b (omega arith)))
 
 -- no status takes more than two
 pub at-most-two : (b : ℕ) → dataLength b ≤ 2
@@ -103,7 +117,7 @@ sound-kept d b h = go (classOf b) (range-of b)
         (λ e. by-test P (ltb (d .len) limit) _ _ (λ l. longer-sound d (ltb-true _ _ l)) (λ l. refl))
         (λ e. collect-sound d (d .status) b h (closed-part d h e .1) r)
     go k.Held r = rw (lt-ltb 0 (dataLength b) (held-takes-data b r))
-    go k.Start r = rw (le-leb 1 limit (omega (arith, room-for-two)))
+    go k.Start r = rw (le-leb 1 limit (omega (arith, room-for-three)))
     go k.Undefined r = refl
     go k.Tune r = refl
     go k.End r = by-test P (d .in_sysex) _ _ (λ e. by-test P (ltb (d .len) limit) _ _ (λ l. refl) (λ l. refl)) (λ e. refl)

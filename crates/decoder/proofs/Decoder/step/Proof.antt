@@ -1,10 +1,11 @@
 -- `Decoder::step` meets its contract: each arm does what the byte's class does.
 use Rattle.decoder.proofs.Steps.{data-fits, data-over, data-plain, end-fits, end-over, end-plain, step-by}
-use Rattle.decoder.proofs.Limit.{limit-is, room-for-two}
+use Rattle.decoder.proofs.Limit.{limit-is, room-for-three}
 use Rattle.decoder.specs.State.{limit}
 use Rattle.decoder.specs.declared.Class.the-variants as k
 use borrow.Author.Tests.{not-true, not-false}
-use mathlib.Core.Path.{refl, sym, _∙_}
+use mathlib.Core.Path.{refl, sym, _∙_, ap}
+use Rattle.decoder.specs.Step.{silent}
 use Prim.Native.Nat.{_≤_, _<_}
 use native.Mathlib.Omega.{arith}
 use borrow.Author.Needs.{needs}
@@ -58,7 +59,7 @@ enum-told-3 : tie.Need-enum-told-3
 enum-told-3 c = search needs
 
 slice-write-store-2 : tie.Need-slice-write-store-2
-slice-write-store-2 c = omega (arith, room-for-two)
+slice-write-store-2 c = omega (arith, room-for-three)
 
 opened-requires : tie.Need-opened-requires
 opened-requires c κs = search needs
@@ -97,7 +98,7 @@ returns-3 : tie.Need-returns-3
 returns-3 c = let a = c .before .before .before .before .before .before .before .before .args in
     let eqs = end-plain (a .self) (a .store .now) (a .byte) (not-true (a .self .in_sysex) (c .before .if3 .taken)) in
     step-by k.End (a .self) (a .store .now) (a .byte) (sym (c .before .before .before .before .before .before .class-of .ensures) ∙ c .before .before .before .before .enum-told6 .given .1) _ _
-    (rw (c .silent2 .ensures, c .before .before .before .cleared3 .ensures) (sym (eqs .0))) (sym (eqs .1))
+    (c .silent2 .ensures ∙ ap silent (c .before .before .before .cleared3 .ensures) ∙ sym (eqs .0)) (sym (eqs .1))
 
 slice-write-store-3 : tie.Need-slice-write-store-3
 slice-write-store-3 c = omega (arith, limit-is)
