@@ -148,14 +148,16 @@ impl Decoder {
     pub fn capacity(self) -> usize
         ensures { λ r. ⌜ r ≡ limit ⌝ }
     {
-        MAX_SYSEX_LEN
+        let capacity = MAX_SYSEX_LEN;
+        capacity
     }
 
     // Is a frame open?
     pub fn in_sysex(self) -> bool
         ensures { λ r. ⌜ r ≡ self .in_sysex ⌝ }
     {
-        self.in_sysex
+        let open = self.in_sysex;
+        open
     }
 
     // Forgets the open frame, the status and pending data. Takes any state.
