@@ -70,6 +70,15 @@ singly d store [] = []
 singly d store (b ∷ bs) =
     toldAll (stored d store b) (reportList (step d b .interrupted) (step d b .report)) ∷ singly (step d b .state) (stored d store b) bs
 
+-- the state and the store behind bytes that came singly
+abbrev pub stateAfter : Decoder → List ℕ → Decoder
+stateAfter d [] = d
+stateAfter d (b ∷ bs) = stateAfter (step d b .state) bs
+
+abbrev pub storeAfter : Decoder → List ℕ → List ℕ → List ℕ
+storeAfter d store [] = store
+storeAfter d store (b ∷ bs) = storeAfter (step d b .state) (stored d store b) bs
+
 -- how many bytes all the calls used
 abbrev pub total : List (Outcome ℕ) → ℕ
 total [] = 0
