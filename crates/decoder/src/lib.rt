@@ -271,8 +271,8 @@ impl Decoder {
     }
 
     // A message is whole, with these data bytes.
-    fn completed(self, status: u8, first: u8, second: u8) -> Decoder
-        ensures { λ r. ⌜ r ≡ completed self status first second ⌝ }
+    fn completed(status: u8, first: u8, second: u8) -> Decoder
+        ensures { λ r. ⌜ r ≡ completed status first second ⌝ }
     {
         let next = byte::kept(status);
         Decoder {
@@ -295,14 +295,14 @@ impl Decoder {
             RunningStatus::Status(status) => {
                 if self.have != 0 {
                     return Stepped {
-                        state: self.completed(status, self.data0, byte),
+                        state: Decoder::completed(status, self.data0, byte),
                         interrupted: false,
                         report: byte::message(status, self.data0, byte),
                     };
                 }
                 if wire::data_len(status) <= 1 {
                     return Stepped {
-                        state: self.completed(status, byte, self.data1),
+                        state: Decoder::completed(status, byte, self.data1),
                         interrupted: false,
                         report: byte::message(status, byte, 0),
                     };
