@@ -6,7 +6,7 @@ use Prim.Native.Nat.{ℕ, suc, _+_, _≤_, _<_}
 use native.Mathlib.Omega.{arith}
 use native.Mathlib.Numerals.{add-one}
 use lib.Dec.{ltb, eqb}
-use lib.ListN.{length, take, set, length-append, length-set}
+use lib.ListN.{replicate, length-replicate, length, take, set, length-append, length-set}
 use lib.Seq.{take-suc-set}
 use borrow.Author.Tests.{ltb-true, ltb-false, eqb-true, lt-ltb, le-ltb, le-leb, lt-leb, eq-eqb, ne-eqb}
 use Rattle.laws.proofs.Tests.{split, both, true-is-not-false}
@@ -24,16 +24,16 @@ use Rattle.decoder.specs.declared.Report.the-variants as r
 use Rattle.decoder.specs.declared.MaybeReport.{MaybeReport}
 use Rattle.decoder.specs.declared.MaybeReport.the-variants as m
 use Rattle.decoder.specs.declared.Stepped.{Stepped}
-use Rattle.decoder.specs.State.{limit, cleared}
+use Rattle.decoder.specs.State.{limit, cleared, fresh}
 use Rattle.decoder.specs.Step.{classOf, stepIn, step, storedIn, stored, realtimeReport, silent, longer, tooLong, collect}
 use Rattle.decoder.specs.Reports.{ownReport, reportList, toldAll}
 use Rattle.decoder.proofs.Limit.{room-for-three}
 use Rattle.decoder.proofs.Classes.{Range, range-of}
 use Rattle.decoder.proofs.SoundKept.{held-takes-data}
 use Rattle.decoder.proofs.Steps.{data-fits, data-over, data-plain, end-fits, end-over, end-plain}
-use Rattle.damage.specs.Open.{isOpen, lastStatus, dataSince}
+use Rattle.damage.specs.Open.{later, isOpen, lastStatus, dataSince, openAt}
 use Rattle.damage.specs.History.{Told, interruption, heardRealtime, heardData, heardIn, heard, meaning}
-use Rattle.damage.specs.Calls.{singly}
+use Rattle.damage.specs.Calls.{singly, stateAfter, storeAfter}
 use Rattle.damage.proofs.Ahead.{nextStatus, nextData, ahead}
 use Rattle.damage.proofs.Matches.{held, pending, Matches, nothing-pending, data-next}
 
@@ -231,15 +231,33 @@ pub byte-is-step : (v : ℕ) (xs : List ℕ) (d : Decoder) (store : List ℕ) (b
 unfolding step stored heard
 byte-is-step v xs d store b m = good v xs d store m b (classOf b) (range-of b)
 
+-- the state holds what the bytes ahead say once one more has come
+ahead-matches : (past : List ℕ) (d : Decoder) (store : List ℕ) (b : ℕ) → Matches (lastStatus past) (dataSince past) d store
+    → Matches (lastStatus (b ∷ past)) (dataSince (b ∷ past)) (step d b .state) (stored d store b)
+ahead-matches past d store b g =
+    let same = ahead (classOf b) past b (range-of b) in
+    subst (λ (v : ℕ). Matches v (dataSince (b ∷ past)) (step d b .state) (stored d store b)) (sym (same .0))
+    (subst (λ (xs : List ℕ). Matches (nextStatus (classOf b) (lastStatus past) b) xs (step d b .state) (stored d store b)) (sym (same .1))
+    (byte-is-step (lastStatus past) (dataSince past) d store b g .1))
+
 -- bytes that come singly report what history says of them
 pub history-is-step : (past : List ℕ) (d : Decoder) (store bytes : List ℕ) → Matches (lastStatus past) (dataSince past) d store
     → singly d store bytes ≡ meaning past bytes
 unfolding singly meaning
 history-is-step past d store [] g = refl
 history-is-step past d store (b ∷ bs) g =
-    let next = byte-is-step (lastStatus past) (dataSince past) d store b g in
-    let same = ahead (classOf b) past b (range-of b) in
-    ap₂ (λ (x : List Told) (rest : List (List Told)). x ∷ rest) (next .0)
-    (history-is-step (b ∷ past) (step d b .state) (stored d store b) bs
-    (subst (λ (v : ℕ). Matches v (dataSince (b ∷ past)) (step d b .state) (stored d store b)) (sym (same .0))
-    (subst (λ (xs : List ℕ). Matches (nextStatus (classOf b) (lastStatus past) b) xs (step d b .state) (stored d store b)) (sym (same .1)) (next .1))))
+    ap₂ (λ (x : List Told) (rest : List (List Told)). x ∷ rest) (byte-is-step (lastStatus past) (dataSince past) d store b g .0)
+    (history-is-step (b ∷ past) (step d b .state) (stored d store b) bs (ahead-matches past d store b g))
+
+-- and so it is behind any bytes
+pub matches-after : (past : List ℕ) (d : Decoder) (store bytes : List ℕ) → Matches (lastStatus past) (dataSince past) d store
+    → Matches (lastStatus (later past bytes)) (dataSince (later past bytes)) (stateAfter d bytes) (storeAfter d store bytes)
+matches-after past d store [] g = g
+matches-after past d store (b ∷ bs) g = matches-after (b ∷ past) (step d b .state) (stored d store b) bs (ahead-matches past d store b g)
+
+-- what `Decoder::in_sysex` answers: whether a frame is open at the next byte
+pub in-sysex-is-open : (bytes : List ℕ) → stateAfter fresh bytes .in_sysex ≡ openAt (later [] bytes)
+in-sysex-is-open bytes =
+    let blank : List ℕ = replicate limit 0 in
+    let room : limit ≤ length blank = omega (arith, length-replicate {A = ℕ} limit 0) in
+    flag-is-open _ _ _ _ (matches-after [] fresh blank bytes (cleared-matches fresh blank room))

@@ -91,7 +91,7 @@ Next v xs b store x = (toldAll store (reportList (x .interrupted) (x .report)) �
 -- the message is whole
 module _ (v : ℕ) (xs : List ℕ) (d : Decoder) (b : ℕ) (store : List ℕ) where
   whole : (first second a z : ℕ) → heardData v xs b ≡ message v a z → kept v ≡ held v (xs ++ (b ∷ [])) → pending v (xs ++ (b ∷ [])) ≡ 0
-      → Next v xs b store (record { state = completed d v first second; interrupted = false; report = messageReport v a z })
+      → Next v xs b store (record { state = completed v first second; interrupted = false; report = messageReport v a z })
   whole first second a z e k p = (
     message-told store v a z ∙ sym e,
     record { outside = refl; force = k; have = sym p; first = λ q. absurd (omega arith) },
@@ -104,7 +104,7 @@ module _ (v : ℕ) (xs : List ℕ) (d : Decoder) (b : ℕ) (store : List ℕ) wh
 
   -- the three ways a data byte goes, by what waits
   at-once : d .have ≡ 0 → leb (dataLength v) 1 ≡ true
-      → collect (s.Status v) d b ≡ record { state = completed d v b (d .data1); interrupted = false; report = messageReport v b 0 }
+      → collect (s.Status v) d b ≡ record { state = completed v b (d .data1); interrupted = false; report = messageReport v b 0 }
   at-once h l = rw (eq-eqb (d .have) 0 h, l)
 
   first-of-two : d .have ≡ 0 → leb (dataLength v) 1 ≡ false
@@ -112,7 +112,7 @@ module _ (v : ℕ) (xs : List ℕ) (d : Decoder) (b : ℕ) (store : List ℕ) wh
   first-of-two h l = rw (eq-eqb (d .have) 0 h, l)
 
   second-of-two : d .have ≡ 1
-      → collect (s.Status v) d b ≡ record { state = completed d v (d .data0) b; interrupted = false; report = messageReport v (d .data0) b }
+      → collect (s.Status v) d b ≡ record { state = completed v (d .data0) b; interrupted = false; report = messageReport v (d .data0) b }
   second-of-two h = rw (ne-eqb (d .have) 0 (λ e. omega arith))
 
   goes : (x y : Stepped) → x ≡ y → Next v xs b store y → Next v xs b store x

@@ -8,7 +8,8 @@ use Rattle.refusal.specs.Outcome.{Outcome, gives, refused}
 use Rattle.decoder.specs.declared.Decoder.{Decoder}
 use Rattle.decoder.specs.State.{limit}
 use Rattle.decoder.specs.Step.{step, stored}
-use Rattle.decoder.specs.Call.{Walked, call, storeOf}
+use Rattle.decoder.specs.declared.Fed.{Fed}
+use Rattle.decoder.specs.Call.{call, answerOf, storeOf}
 use Rattle.decoder.specs.Reports.{reportList, toldAll}
 use Rattle.damage.specs.History.{Told}
 
@@ -29,27 +30,28 @@ belonging zero [] = []
 belonging zero (x ∷ xs) = (x ∷ xs) ∷ []
 belonging (suc n) xs = replicate n [] ++ (xs ∷ [])
 
--- what a call's answer is to its caller: the count of bytes used, or the refusal
-abbrev pub usedOf : Outcome Walked → Outcome ℕ
-usedOf (gives w) = gives (w .fed .used)
-usedOf (refused n values) = refused n values
+-- what an answer says to its caller: the count of bytes used, or the refusal
+abbrev pub usedBy : Outcome Fed → Outcome ℕ
+usedBy (gives f) = gives (f .used)
+usedBy (refused n values) = refused n values
 
 abbrev pub countOf : Outcome ℕ → ℕ
 countOf (gives n) = n
 countOf (refused n values) = 0
 
--- its reports, a frame's bytes read from the store at that answer; a refused call has none
-abbrev pub reportsOf : Outcome Walked → List (List Told)
-reportsOf (gives w) = belonging (w .fed .used) (toldAll (w .store) (reportList (w .fed .interrupted) (w .fed .report)))
-reportsOf (refused n values) = []
+-- its reports, a frame's bytes read from the store as the call left it; a refused call has none
+abbrev pub reportsBy : Outcome Fed → List ℕ → List (List Told)
+reportsBy (gives f) store = belonging (f .used) (toldAll store (reportList (f .interrupted) (f .report)))
+reportsBy (refused n values) store = []
 
 -- the state for the next call; after a refused call it is as it was
-abbrev pub stateOf : Outcome Walked → Decoder → Decoder
-stateOf (gives w) d = w .fed .state
-stateOf (refused n values) d = d
+abbrev pub stateBy : Outcome Fed → Decoder → Decoder
+stateBy (gives f) d = f .state
+stateBy (refused n values) d = d
 
-abbrev pub withCall : Outcome Walked → Heard → Heard
-withCall o rest = record { answers = usedOf o ∷ rest .answers; reports = reportsOf o ++ rest .reports }
+-- a call in front of others: its answer, and the store that it was lent as it left it
+abbrev pub withAnswer : Outcome Fed → List ℕ → Heard → Heard
+withAnswer answer store rest = record { answers = usedBy answer ∷ rest .answers; reports = reportsBy answer store ++ rest .reports }
 
 -- each call gets the state that the last one returned, the store as it was left, and bytes that were not used yet. A call that is
 -- lent another store leaves this one and the bytes to come as they are
@@ -57,16 +59,25 @@ unfoldable pub calls : List Call → Decoder → List ℕ → List ℕ → Heard
 calls [] d store bytes = record { answers = []; reports = [] }
 calls (give n ∷ cs) d store bytes =
     let o = call d store (take n bytes) in
-    withCall o (calls cs (stateOf o d) (storeOf o store) (drop (countOf (usedOf o)) bytes))
+    withAnswer (answerOf o) (storeOf o store) (calls cs (stateBy (answerOf o) d) (storeOf o store) (drop (countOf (usedBy (answerOf o))) bytes))
 calls (lend-short other others short ∷ cs) d store bytes =
     let o = call d other others in
-    withCall o (calls cs (stateOf o d) store bytes)
+    withAnswer (answerOf o) (storeOf o other) (calls cs (stateBy (answerOf o) d) store bytes)
 
 -- what the bytes report if they come singly: each byte's reports, a frame's bytes read from the store that it leaves
 unfoldable pub singly : Decoder → List ℕ → List ℕ → List (List Told)
 singly d store [] = []
 singly d store (b ∷ bs) =
     toldAll (stored d store b) (reportList (step d b .interrupted) (step d b .report)) ∷ singly (step d b .state) (stored d store b) bs
+
+-- the state and the store behind bytes that came singly
+abbrev pub stateAfter : Decoder → List ℕ → Decoder
+stateAfter d [] = d
+stateAfter d (b ∷ bs) = stateAfter (step d b .state) bs
+
+abbrev pub storeAfter : Decoder → List ℕ → List ℕ → List ℕ
+storeAfter d store [] = store
+storeAfter d store (b ∷ bs) = storeAfter (step d b .state) (stored d store b) bs
 
 -- how many bytes all the calls used
 abbrev pub total : List (Outcome ℕ) → ℕ

@@ -1,35 +1,12 @@
 -- A list of calls of the code itself: each call's answer, and the store afterwards, are what the contract of `Decoder::feed` says.
-use mathlib.Core.List.{List, [], _∷_, _++_}
+use mathlib.Core.List.{List, [], _∷_}
 use Prim.Native.Nat.{ℕ, _<_}
 use lib.ListN.{length, take, drop}
-use Rattle.refusal.specs.Outcome.{Outcome, gives, refused}
 use Rattle.decoder.specs.declared.Decoder.{Decoder}
-use Rattle.decoder.specs.declared.Fed.{Fed}
 use Rattle.decoder.specs.declared.FeedAnswer.{FeedAnswer}
 use Rattle.decoder.specs.State.{limit}
 use Rattle.decoder.specs.Call.{call, answered, Feeds}
-use Rattle.decoder.specs.Reports.{reportList, toldAll}
-use Rattle.damage.specs.History.{Told}
-use Rattle.damage.specs.Calls.{Call, give, lend-short, Heard, belonging, countOf}
-
--- what the answer says: how many bytes were used, or the refusal
-abbrev pub usedBy : Outcome Fed → Outcome ℕ
-usedBy (gives f) = gives (f .used)
-usedBy (refused n values) = refused n values
-
--- the state for the next call
-abbrev pub stateBy : Outcome Fed → Decoder → Decoder
-stateBy (gives f) d = f .state
-stateBy (refused n values) d = d
-
--- its reports, at the last byte used, a frame's bytes read from the store as the call left it
-abbrev pub reportsBy : Outcome Fed → List ℕ → List (List Told)
-reportsBy (gives f) store = belonging (f .used) (toldAll store (reportList (f .interrupted) (f .report)))
-reportsBy (refused n values) store = []
-
-abbrev pub withAnswer : FeedAnswer → List ℕ → Heard → Heard
-withAnswer answer store rest =
-    record { answers = usedBy (answered answer) ∷ rest .answers; reports = reportsBy (answered answer) store ++ rest .reports }
+use Rattle.damage.specs.Calls.{Call, give, lend-short, Heard, usedBy, countOf, stateBy, withAnswer}
 
 -- the calls that were made, and what they came to: whatever answers and stores the code gives, if each meets its contract
 pub data Made : List Call → Decoder → List ℕ → List ℕ → Heard → Type 0 where
@@ -37,8 +14,8 @@ pub data Made : List Call → Decoder → List ℕ → List ℕ → Heard → Ty
   given : {n : ℕ} {cs : List Call} {d : Decoder} {store bytes : List ℕ} {h : Heard} (answer : FeedAnswer) (after : List ℕ)
       → Feeds (call d store (take n bytes)) answer store after
       → Made cs (stateBy (answered answer) d) after (drop (countOf (usedBy (answered answer))) bytes) h
-      → Made (give n ∷ cs) d store bytes (withAnswer answer after h)
+      → Made (give n ∷ cs) d store bytes (withAnswer (answered answer) after h)
   lent : {other others : List ℕ} {short : length other < limit} {cs : List Call} {d : Decoder} {store bytes : List ℕ} {h : Heard} (answer : FeedAnswer) (after : List ℕ)
       → Feeds (call d other others) answer other after
       → Made cs (stateBy (answered answer) d) store bytes h
-      → Made (lend-short other others short ∷ cs) d store bytes (withAnswer answer after h)
+      → Made (lend-short other others short ∷ cs) d store bytes (withAnswer (answered answer) after h)

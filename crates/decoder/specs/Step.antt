@@ -61,8 +61,8 @@ abbrev pub kept : ℕ → RunningStatus
 kept b = pick (isChannelStatus b) (s.Status b) s.None
 
 -- the state after a whole message with these data bytes
-abbrev pub completed : Decoder → ℕ → ℕ → ℕ → Decoder
-completed d b first second = record { in_sysex = false; len = 0; status = kept b; have = 0; data0 = first; data1 = second }
+abbrev pub completed : ℕ → ℕ → ℕ → Decoder
+completed b first second = record { in_sysex = false; len = 0; status = kept b; have = 0; data0 = first; data1 = second }
 
 abbrev pub commonReport : MaybeSystemCommon → MaybeReport
 commonReport (g.Some x) = m.Some (r.Common x)
@@ -97,9 +97,9 @@ collect s.None d b = silent d
 collect (s.Status v) d b =
     pick (eqb (d .have) 0)
     (pick (leb (dataLength v) 1)
-    (record { state = completed d v b (d .data1); interrupted = false; report = messageReport v b 0 })
+    (record { state = completed v b (d .data1); interrupted = false; report = messageReport v b 0 })
     (silent (waiting d v b)))
-    (record { state = completed d v (d .data0) b; interrupted = false; report = messageReport v (d .data0) b })
+    (record { state = completed v (d .data0) b; interrupted = false; report = messageReport v (d .data0) b })
 
 -- a status byte 80 to F6: "in a frame gives report 18, then its own effect"
 abbrev pub statusByte : Decoder → Decoder → MaybeReport → Stepped

@@ -2,16 +2,15 @@
 ghost use mathlib.Core.Path.{_≡_};
 ghost use Prim.Native.Nat.{_≤_, _<_};
 ghost use lib.ListN.{length};
-ghost use Rattle.wire.specs.Realtime.{realtimeOf};
 ghost use Rattle.decoder.specs.State.{limit, noStatus, waitsSoundly, sound, cleared, fresh, reset};
-ghost use Rattle.decoder.specs.Step.{classOf, step, stored, opened, holding, longer, waiting, completed, messageReport, collect, kept, silent, reporting, tooLong, statusByte, commonReport, realtimeReport};
-ghost use Rattle.decoder.specs.Call.{someReport, reports, walk, Walks, call, Feeds};
+ghost use Rattle.decoder.specs.Step.{step, stored, opened, holding, longer, waiting, completed, collect};
+ghost use Rattle.decoder.specs.Call.{walk, Walks, call, Feeds};
+
+mod byte;
+
 use refusal::Refusal;
 use wire::Channel;
 use wire::ChannelMessage;
-use wire::MaybeChannelMessage;
-use wire::MaybeRealtime;
-use wire::MaybeSystemCommon;
 use wire::Realtime;
 use wire::SystemCommon;
 
@@ -274,10 +273,10 @@ impl Decoder {
     }
 
     // A message is whole, with these data bytes.
-    fn completed(self, status: u8, first: u8, second: u8) -> Decoder
-        ensures { λ r. ⌜ r ≡ completed self status first second ⌝ }
+    fn completed(status: u8, first: u8, second: u8) -> Decoder
+        ensures { λ r. ⌜ r ≡ completed status first second ⌝ }
     {
-        let next = kept(status);
+        let next = byte::kept(status);
         Decoder {
             in_sysex: false,
             len: 0,
@@ -294,23 +293,23 @@ impl Decoder {
     {
         let now = self.status;
         match now {
-            RunningStatus::None => silent(self),
+            RunningStatus::None => byte::silent(self),
             RunningStatus::Status(status) => {
                 if self.have != 0 {
                     return Stepped {
-                        state: self.completed(status, self.data0, byte),
+                        state: Decoder::completed(status, self.data0, byte),
                         interrupted: false,
-                        report: message(status, self.data0, byte),
+                        report: byte::message(status, self.data0, byte),
                     };
                 }
                 if wire::data_len(status) <= 1 {
                     return Stepped {
-                        state: self.completed(status, byte, self.data1),
+                        state: Decoder::completed(status, byte, self.data1),
                         interrupted: false,
-                        report: message(status, byte, 0),
+                        report: byte::message(status, byte, 0),
                     };
                 }
-                silent(self.waiting(status, byte))
+                byte::silent(self.waiting(status, byte))
             }
         }
     }
@@ -321,25 +320,25 @@ impl Decoder {
         ensures { λ r. ⌜ (r ≡ step self byte) × (now (store .exit) ≡ stored self (now (store .entry)) byte) ⌝ }
     {
         let at = self.len;
-        let class = class_of(byte);
+        let class = byte::class_of(byte);
         match class {
             Class::Data => {
                 if !self.in_sysex {
                     return self.collect(byte);
                 }
                 if MAX_SYSEX_LEN <= at {
-                    return too_long(self);
+                    return byte::too_long(self);
                 }
                 store[at] = byte;
-                silent(self.longer())
+                byte::silent(self.longer())
             }
-            Class::Held => status_byte(self, self.holding(byte), MaybeReport::None),
+            Class::Held => byte::status_byte(self, self.holding(byte), MaybeReport::None),
             Class::Start => {
                 store[0] = byte;
-                status_byte(self, self.opened(), MaybeReport::None)
+                byte::status_byte(self, self.opened(), MaybeReport::None)
             }
-            Class::Undefined => status_byte(self, self.cleared(), MaybeReport::None),
-            Class::Tune => status_byte(
+            Class::Undefined => byte::status_byte(self, self.cleared(), MaybeReport::None),
+            Class::Tune => byte::status_byte(
                 self,
                 self.cleared(),
                 MaybeReport::Some(Report::Common(SystemCommon::TuneRequest)),
@@ -347,18 +346,18 @@ impl Decoder {
             Class::End => {
                 let next = self.cleared();
                 if !self.in_sysex {
-                    return silent(next);
+                    return byte::silent(next);
                 }
                 if at < MAX_SYSEX_LEN {
                     store[at] = byte;
-                    return reporting(next, Report::SysEx(at + 1));
+                    return byte::reporting(next, Report::SysEx(at + 1));
                 }
-                too_long(self)
+                byte::too_long(self)
             }
             Class::Realtime => Stepped {
                 state: self,
                 interrupted: false,
-                report: realtime(byte),
+                report: byte::realtime(byte),
             },
         }
     }
@@ -374,7 +373,7 @@ impl Decoder {
             let done = state.step(store, byte);
             used += 1;
             let next = done.state;
-            if reports(done) {
+            if byte::reports(done) {
                 let report = done.report;
                 return Fed {
                     used,
@@ -391,135 +390,5 @@ impl Decoder {
             interrupted: false,
             report: MaybeReport::None,
         }
-    }
-}
-
-fn class_of(byte: u8) -> Class
-    ensures { λ r. ⌜ r ≡ classOf byte ⌝ }
-{
-    if byte < 0x80 {
-        return Class::Data;
-    }
-    if byte < 0xF0 {
-        return Class::Held;
-    }
-    if byte == 0xF0 {
-        return Class::Start;
-    }
-    if byte < 0xF4 {
-        return Class::Held;
-    }
-    if byte < 0xF6 {
-        return Class::Undefined;
-    }
-    if byte == 0xF6 {
-        return Class::Tune;
-    }
-    if byte == 0xF7 {
-        return Class::End;
-    }
-    Class::Realtime
-}
-
-// A channel status stays in force after its message, another does not.
-fn kept(status: u8) -> RunningStatus
-    ensures { λ r. ⌜ r ≡ kept status ⌝ }
-{
-    if status < 0x80 {
-        return RunningStatus::None;
-    }
-    if status < 0xF0 {
-        return RunningStatus::Status(status);
-    }
-    RunningStatus::None
-}
-
-// The message of a status byte and its data bytes.
-fn message(status: u8, first: u8, second: u8) -> MaybeReport
-    ensures { λ r. ⌜ r ≡ messageReport status first second ⌝ }
-{
-    let found = ChannelMessage::from_bytes(status, first, second);
-    match found {
-        MaybeChannelMessage::Some(message) => MaybeReport::Some(Report::Channel {
-            channel: Channel(status % 16),
-            message,
-        }),
-        MaybeChannelMessage::None => common(SystemCommon::from_bytes(status, first, second)),
-    }
-}
-
-fn common(found: MaybeSystemCommon) -> MaybeReport
-    ensures { λ r. ⌜ r ≡ commonReport found ⌝ }
-{
-    match found {
-        MaybeSystemCommon::Some(message) => MaybeReport::Some(Report::Common(message)),
-        MaybeSystemCommon::None => MaybeReport::None,
-    }
-}
-
-fn realtime(byte: u8) -> MaybeReport
-    ensures { λ r. ⌜ r ≡ realtimeReport (realtimeOf byte) ⌝ }
-{
-    let found = Realtime::from_status(byte);
-    match found {
-        MaybeRealtime::Some(message) => MaybeReport::Some(Report::Realtime(message)),
-        MaybeRealtime::None => MaybeReport::None,
-    }
-}
-
-fn silent(state: Decoder) -> Stepped
-    ensures { λ r. ⌜ r ≡ silent state ⌝ }
-{
-    Stepped {
-        state,
-        interrupted: false,
-        report: MaybeReport::None,
-    }
-}
-
-fn reporting(state: Decoder, report: Report) -> Stepped
-    ensures { λ r. ⌜ r ≡ reporting state report ⌝ }
-{
-    Stepped {
-        state,
-        interrupted: false,
-        report: MaybeReport::Some(report),
-    }
-}
-
-// A byte beyond the limit drops the frame.
-fn too_long(state: Decoder) -> Stepped
-    ensures { λ r. ⌜ r ≡ tooLong state ⌝ }
-{
-    let next = state.cleared();
-    Stepped {
-        state: next,
-        interrupted: false,
-        report: MaybeReport::Some(Report::SysExTooLong(MAX_SYSEX_LEN)),
-    }
-}
-
-// A status byte below F7 breaks off an open frame.
-fn status_byte(state: Decoder, next: Decoder, report: MaybeReport) -> Stepped
-    ensures { λ r. ⌜ r ≡ statusByte state next report ⌝ }
-{
-    Stepped {
-        state: next,
-        interrupted: state.in_sysex,
-        report,
-    }
-}
-
-// Does a byte report anything?
-fn reports(done: Stepped) -> bool
-    ensures { λ r. ⌜ r ≡ reports done ⌝ }
-{
-    let report = done.report;
-    if done.interrupted {
-        return true;
-    }
-    match report {
-        MaybeReport::None => false,
-        MaybeReport::Some(_) => true,
     }
 }

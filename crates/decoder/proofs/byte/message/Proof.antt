@@ -1,8 +1,8 @@
 -- `message` meets its contract: a channel message if the bytes are one, else a common one.
 use Rattle.decoder.specs.Step.{messageReport}
 use borrow.Author.Needs.{needs}
-use Rattle.decoder.proofs.message.Statement.{statement}
-use Rattle.decoder.proofs.message.Tie as tie
+use Rattle.decoder.proofs.byte.message.Statement.{statement}
+use Rattle.decoder.proofs.byte.message.Tie as tie
 
 from-bytes-requires : tie.Need-from-bytes-requires
 from-bytes-requires c κs = search needs

@@ -1,7 +1,7 @@
 -- `realtime` meets its contract: a message is passed on, and none is none.
 use borrow.Author.Needs.{needs}
-use Rattle.decoder.proofs.realtime.Statement.{statement}
-use Rattle.decoder.proofs.realtime.Tie as tie
+use Rattle.decoder.proofs.byte.realtime.Statement.{statement}
+use Rattle.decoder.proofs.byte.realtime.Tie as tie
 
 from-status-requires : tie.Need-from-status-requires
 from-status-requires c κs = search needs

@@ -1,8 +1,8 @@
 -- `too_long` meets its contract: the code's constant is the limit.
 use Rattle.decoder.proofs.Limit.{limit-is}
 use borrow.Author.Needs.{needs}
-use Rattle.decoder.proofs.too_long.Statement.{statement}
-use Rattle.decoder.proofs.too_long.Tie as tie
+use Rattle.decoder.proofs.byte.too_long.Statement.{statement}
+use Rattle.decoder.proofs.byte.too_long.Tie as tie
 
 cleared-requires : tie.Need-cleared-requires
 cleared-requires c κs = search needs

@@ -1,7 +1,7 @@
 -- `kept` meets its contract: its tests tell channel status bytes from the others.
 use borrow.Author.Tests.{le-leb, lt-leb, lt-ltb, le-ltb}
-use Rattle.decoder.proofs.kept.Statement.{statement}
-use Rattle.decoder.proofs.kept.Tie as tie
+use Rattle.decoder.proofs.byte.kept.Statement.{statement}
+use Rattle.decoder.proofs.byte.kept.Tie as tie
 
 returns : tie.Need-returns
 returns c = rw (lt-leb 0x80 _ (c .if1 .taken))

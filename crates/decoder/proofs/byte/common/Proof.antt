@@ -1,7 +1,7 @@
 -- `common` meets its contract: a message is passed on, and none is none.
 use borrow.Author.Needs.{needs}
-use Rattle.decoder.proofs.common.Statement.{statement}
-use Rattle.decoder.proofs.common.Tie as tie
+use Rattle.decoder.proofs.byte.common.Statement.{statement}
+use Rattle.decoder.proofs.byte.common.Tie as tie
 
 enum-known-found : tie.Need-enum-known-found
 enum-known-found c = search needs

@@ -3,8 +3,8 @@ use Rattle.decoder.proofs.Classes.{class-is}
 use Rattle.decoder.specs.declared.Class.the-variants as k
 use mathlib.Core.Path.{sym}
 use native.Mathlib.Omega.{arith}
-use Rattle.decoder.proofs.class_of.Statement.{statement}
-use Rattle.decoder.proofs.class_of.Tie as tie
+use Rattle.decoder.proofs.byte.class_of.Statement.{statement}
+use Rattle.decoder.proofs.byte.class_of.Tie as tie
 
 returns : tie.Need-returns
 returns c = sym (class-is _ k.Data (omega arith))
