@@ -1,4 +1,4 @@
--- The edges of the frame limit, as laws over the limit and computed at its value. F0 and F7 count: a frame with two data bytes
+-- The edges of the frame limit, as laws over the limit. F0 and F7 count: a frame with two data bytes
 -- fewer than the limit fits; with one fewer it is still open but F7 is one too many; and the data byte that makes as many as the
 -- limit drops the frame with 19, once, and what follows up to the next status byte is ignored.
 use mathlib.Core.Path.{_≡_, refl, sym, _∙_, ap, ap₂}

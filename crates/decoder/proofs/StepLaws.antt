@@ -22,7 +22,7 @@ use Rattle.decoder.specs.declared.Report.the-variants as r
 use Rattle.decoder.specs.declared.MaybeReport.{MaybeReport}
 use Rattle.decoder.specs.declared.MaybeReport.the-variants as m
 use Rattle.decoder.specs.declared.Stepped.{Stepped}
-use Rattle.decoder.specs.State.{limit, reset}
+use Rattle.decoder.specs.State.{limit, sound, reset}
 use Rattle.decoder.specs.Step.{classOf, stepIn, step, stored, messageReport, realtimeReport, collect, kept}
 use Rattle.decoder.specs.Reports.{ownReport, reportList}
 use Rattle.decoder.specs.declared.Fed.{Fed}
@@ -45,6 +45,27 @@ cleared-by-f4-to-f7 d b l h = go (classOf b) (range-of b)
     go k.Tune r = refl
     go k.End r = by-test P (d .in_sysex) _ _ (λ e. by-test P (ltb (d .len) limit) _ _ (λ l. refl) (λ l. refl)) (λ e. refl)
     go k.Realtime r = absurd (omega arith)
+
+-- every status byte below F8 drops pending data
+pub pending-dropped : (d : Decoder) (b : ℕ) → 0x80 ≤ b → b < 0xF8 → step d b .state .have ≡ 0
+unfolding step
+pending-dropped d b l h = go (classOf b) (range-of b)
+  where
+    P : Stepped → Type 0
+    P x = x .state .have ≡ 0
+
+    go : (c : Class) → Range c b → P (stepIn c d b)
+    go k.Data r = absurd (omega arith)
+    go k.Held r = refl
+    go k.Start r = refl
+    go k.Undefined r = refl
+    go k.Tune r = refl
+    go k.End r = by-test P (d .in_sysex) _ _ (λ e. by-test P (ltb (d .len) limit) _ _ (λ l. refl) (λ l. refl)) (λ e. refl)
+    go k.Realtime r = absurd (omega arith)
+
+-- a reset leaves a sound state, whatever the state was
+pub reset-sound : (d : Decoder) → sound (reset d) ≡ true
+reset-sound d = refl
 
 -- F1, F2 and F3 lose their status once their data are there; a channel status stays
 pub common-status-lost : (b : ℕ) → 0xF0 ≤ b → kept b ≡ s.None
