@@ -1,7 +1,9 @@
 // What frames and identity messages share: F0 and F7 at the ends, and bytes below 80 between them.
 ghost use mathlib.Core.Path.{_≡_};
 ghost use lib.ListN.{getD};
+ghost use Rattle.ids.specs.Device.{deviceInRange};
 ghost use Rattle.framing.specs.Framing.{framed, firstHigh, sameBytes};
+use ids::DeviceId;
 
 pub const SYSEX_START: u8 = 0xF0;
 
@@ -64,4 +66,14 @@ pub fn byte_at(bytes: &[u8], at: usize) -> u8
     ensures { λ r. ⌜ r ≡ getD (now (bytes .entry)) at 0 ⌝ }
 {
     if at < bytes.len() { bytes[at] } else { 0 }
+}
+
+// Can the device's byte stand in a frame? A unit above 0F can be made by hand, and has none.
+pub fn device_in_range(device: DeviceId) -> bool
+    ensures { λ r. ⌜ r ≡ deviceInRange device ⌝ }
+{
+    match device {
+        DeviceId::Unit(id) => id < 16,
+        DeviceId::Broadcast => true,
+    }
 }
