@@ -12,7 +12,7 @@ use Rattle.laws.proofs.Zeros.{getD-padded}
 use Rattle.refusal.specs.declared.Refusal.{Refusal}
 use Rattle.refusal.specs.Refusal.{numberOf, valuesOf}
 use Rattle.refusal.specs.Outcome.{Outcome, gives, refusal, unless}
-use Rattle.refusal.proofs.Given.{given-not-refused, passed}
+use Rattle.refusal.proofs.Given.{passed, refused-too}
 use Rattle.ids.specs.declared.ProtocolVersion.{ProtocolVersion}
 use Rattle.ids.specs.Small.{versionOf}
 use Rattle.command.specs.declared.Command.{Command}
@@ -163,14 +163,7 @@ checked-prefix k f own kept e o =
 
 -- a version that is refused on its own is refused as a field, and one that is given passes
 pub version-refused : {A : Type 0} (n : ℕ) (e : Refusal) (next : Outcome A) → refusal e ≡ versionOf n → refusal e ≡ fieldOk y.version n next
-version-refused {A} n e next h = go (eqb n 6 || eqb n 7) h
-  where
-    go : (t : Bool) → refusal {A = ProtocolVersion} e ≡ unless t 8 (n ∷ []) (gives (record { 0 = n })) → refusal {A = A} e ≡ unless t 8 (n ∷ []) next
-    go true g = absurd (given-not-refused {A = ProtocolVersion} (record { 0 = n }) (numberOf e) (valuesOf e) g)
-    go false g =
-        let number : numberOf e ≡ 8 = cc in
-        let values : valuesOf e ≡ n ∷ [] = cc in
-        rw (number, values)
+version-refused n e next h = refused-too (eqb n 6 || eqb n 7) 8 (n ∷ []) (record { 0 = n }) next e h
 
 pub version-passed : {A : Type 0} (n : ℕ) (x : ProtocolVersion) (next : Outcome A) → gives x ≡ versionOf n → fieldOk y.version n next ≡ next
 version-passed n x next h =

@@ -92,21 +92,40 @@ pub record Padded (bytes : List ℕ) (len : ℕ) (kept : List ℕ) : Type 0 wher
   pub long : len ≡ length bytes
   pub is : kept ≡ bytes ++ replicate (5 - length bytes) 0
 
--- the range of each field: 8, 12, 9, 10, 11 with the byte
+-- the range of each field
+abbrev pub fieldFits : Field → ℕ → Bool
+fieldFits y.free b = true
+fieldFits y.version b = eqb b 6 || eqb b 7
+fieldFits y.bank b = ltb b 8
+fieldFits y.program b = ltb b 128
+fieldFits y.pattern b = ltb b 32
+fieldFits y.receive b = true
+fieldFits y.transmit b = true
+fieldFits y.interface b = ltb b 3
+
+-- and the number of its refusal; three kinds take any byte
+abbrev pub fieldRefusal : Field → ℕ
+fieldRefusal y.free = 0
+fieldRefusal y.version = 8
+fieldRefusal y.bank = 9
+fieldRefusal y.program = 10
+fieldRefusal y.pattern = 11
+fieldRefusal y.receive = 0
+fieldRefusal y.transmit = 0
+fieldRefusal y.interface = 12
+
 abbrev pub fieldOk : {A : Type 0} → Field → ℕ → Outcome A → Outcome A
-fieldOk y.free b next = next
-fieldOk y.version b next = unless (eqb b 6 || eqb b 7) 8 (b ∷ []) next
-fieldOk y.bank b next = unless (ltb b 8) 9 (b ∷ []) next
-fieldOk y.program b next = unless (ltb b 128) 10 (b ∷ []) next
-fieldOk y.pattern b next = unless (ltb b 32) 11 (b ∷ []) next
-fieldOk y.receive b next = next
-fieldOk y.transmit b next = next
-fieldOk y.interface b next = unless (ltb b 3) 12 (b ∷ []) next
+fieldOk f b next = unless (fieldFits f b) (fieldRefusal f) (b ∷ []) next
 
 -- "fields in wire order"
 abbrev pub checked : {A : Type 0} → List Field → List ℕ → ℕ → Outcome A → Outcome A
 checked [] p i next = next
 checked (f ∷ fs) p i next = fieldOk f (getD p i 0) (checked fs p (suc i) next)
+
+-- do all fields fit?
+abbrev pub allFit : List Field → List ℕ → ℕ → Bool
+allFit [] p i = true
+allFit (f ∷ fs) p i = fieldFits f (getD p i 0) && allFit fs p (suc i)
 
 -- the fields that a command has, tested; "the writer neither checks nor writes" what it lacks
 abbrev pub checkedFields : Command → Fields → Outcome Fields
