@@ -1,0 +1,236 @@
+-- How the reader's tests of a payload come out, return by return: each test that the code made decides the definition's.
+use mathlib.Core.Path.{_≡_, refl, sym, _∙_}
+use mathlib.Core.Bool.{Bool, true, false, _&&_, _||_, not}
+use mathlib.Core.List.{List, [], _∷_}
+use Prim.Native.Nat.{ℕ, _+_, _-_, _%_, _≤_, _<_}
+use native.Mathlib.Omega.{arith}
+use lib.Dec.{ltb, leb, eqb}
+use lib.ListN.{length, getD, take, drop}
+use borrow.Author.Tests.{le-leb, lt-leb, lt-ltb, le-ltb, eq-eqb, ne-eqb, ltb-true, ltb-false, leb-true}
+use Rattle.laws.specs.Choice.{pick}
+use Rattle.refusal.specs.declared.Refusal.{Refusal}
+use Rattle.refusal.specs.Refusal.{numberOf, valuesOf}
+use Rattle.refusal.specs.Outcome.{gives, refused, refusal, unless}
+use Rattle.refusal.proofs.Given.{given-not-refused}
+use Rattle.command.specs.declared.Command.{Command}
+use Rattle.command.specs.declared.Command.the-variants as k
+use Rattle.command.specs.Command.{codeOf}
+use Rattle.command.specs.Payload as y
+use Rattle.command.specs.Payload.{payloadOf, rawLengthFor}
+use Rattle.ids.specs.Small.{programDataLength}
+use Rattle.packed.specs.Packed.{unpackedLength, unpackedLengthOf, packedLength}
+use Rattle.packed.proofs.Lengths.{unpacked-given}
+use Rattle.laws.proofs.Tests.{both}
+use Rattle.framing.specs.Framing.{framed, body}
+use Rattle.message.specs.Wire.{carriesRun, optional, fieldsAt, fieldOk, smallChecked}
+use Rattle.message.proofs.ByKind.{checked-by-kind, version-first}
+use Rattle.frame_reader.specs.Reader.{accepted, numberedBy, prefixLength, early, wrongLength, readFields, isAny, versionIn, readRun, payload}
+
+-- lengths that do not unpack are not accepted
+pub not-unpacked : (raw n : ℕ) (e : Refusal) → refusal e ≡ unpackedLengthOf n → false ≡ accepted raw n
+not-unpacked raw n e h = go (not (eqb (n % 8) 1)) h
+  where
+    go : (t : Bool) → refusal {A = ℕ} e ≡ unless t 13 (n ∷ []) (gives (unpackedLength n)) → false ≡ (t && leb raw (unpackedLength n) && ltb (unpackedLength n) (raw + 7))
+    go true g = absurd (given-not-refused (unpackedLength n) (numberOf e) (valuesOf e) g)
+    go false g = refl
+
+-- the others by what they hold
+pub unpacked-holds : (raw n held : ℕ) → gives held ≡ unpackedLengthOf n → accepted raw n ≡ (leb raw held && ltb held (raw + 7))
+unpacked-holds raw n held h =
+    let g = unpacked-given n held h in
+    rw (g .1, ← g .0)
+
+pub holds-too-little : (raw n held : ℕ) → gives held ≡ unpackedLengthOf n → held < raw → false ≡ accepted raw n
+holds-too-little raw n held h less = sym (unpacked-holds raw n held h ∙ rw (lt-leb raw held less))
+
+pub holds-enough : (raw n held : ℕ) → gives held ≡ unpackedLengthOf n → raw ≤ held → ltb (held - raw) 7 ≡ accepted raw n
+holds-enough raw n held h least = sym (unpacked-holds raw n held h ∙ rw (le-leb raw held least) (go (ltb (held - raw) 7) refl))
+  where
+    go : (t : Bool) → ltb (held - raw) 7 ≡ t → ltb held (raw + 7) ≡ t
+    go true e = lt-ltb held (raw + 7) (omega (arith, ltb-true (held - raw) 7 e))
+    go false e = le-ltb held (raw + 7) (omega (arith, ltb-false (held - raw) 7 e))
+
+-- a pattern's number
+pub numbered-short : (n : ℕ) → n < 2 → false ≡ numberedBy n
+numbered-short n h =
+    let one : n - 1 ≡ 0 = omega arith in
+    let none : n - 2 ≡ 0 = omega arith in
+    rw (one, none)
+
+-- fields behind a version that was tested, and those of payloads without a version
+pub fields-tested : (c : Command) (b : Bool) (p : List ℕ) → versionIn p ≡ true → readFields c b p ≡ smallChecked (fieldsAt c b p)
+fields-tested c b p h = checked-by-kind c b p ∙ go (carriesRun c) refl
+  where
+    go : (t : Bool) → carriesRun c ≡ t
+        → pick t (fieldOk y.version (fieldsAt c b p .version) (smallChecked (fieldsAt c b p))) (smallChecked (fieldsAt c b p)) ≡ smallChecked (fieldsAt c b p)
+    go true e = rw (version-first c b p e, h)
+    go false e = refl
+
+pub fields-untested : (c : Command) (b : Bool) (p : List ℕ) → carriesRun c ≡ false → readFields c b p ≡ smallChecked (fieldsAt c b p)
+fields-untested c b p h = checked-by-kind c b p ∙ rw h
+
+-- a run that is accepted as it stands has no number ahead of it
+pub numbered-off : (c : Command) (v : ℕ) (p : List ℕ) → accepted (rawLengthFor c v) (length p - prefixLength c) ≡ true
+    → readFields c (numberedBy (length p)) p ≡ readFields c false p
+numbered-off k.ControlAppNotifyRequest v p h = refl
+numbered-off k.ProgramDumpRequest v p h = refl
+numbered-off k.ProgramDumpResponse v p h = refl
+numbered-off k.EditBufferDumpRequest v p h = refl
+numbered-off k.EditBufferDumpResponse v p h = refl
+numbered-off k.GlobalParameterDumpRequest v p h = refl
+numbered-off k.GlobalParameterDumpResponse v p h = refl
+numbered-off k.SingleUserPatternDumpRequest v p h = refl
+numbered-off k.UserPatternDumpResponse v p h = rw h
+numbered-off k.ProgramBankDumpRequest v p h = refl
+numbered-off k.BankProgramNamesDumpRequest v p h = refl
+numbered-off k.BankProgramNamesDumpResponse v p h = refl
+numbered-off k.SingleProgramNameDumpRequest v p h = refl
+numbered-off k.SingleProgramNameDumpResponse v p h = refl
+numbered-off k.EditBufferPatternDumpRequest v p h = refl
+numbered-off k.ControlAppNotifyResponse v p h = refl
+numbered-off k.CalibrationDataDumpRequest v p h = refl
+numbered-off k.CalibrationDataDumpResponse v p h = refl
+numbered-off k.ChordMemoryDumpRequest v p h = refl
+numbered-off k.ChordMemoryDumpResponse v p h = refl
+numbered-off k.PolyChordMemoryDumpRequest v p h = refl
+numbered-off k.PolyChordMemoryDumpResponse v p h = refl
+
+-- a run of any length is the calibration's
+any-is : (c : Command) → isAny (payloadOf c .run) ≡ eqb (codeOf c) 0x12
+any-is k.ControlAppNotifyRequest = refl
+any-is k.ProgramDumpRequest = refl
+any-is k.ProgramDumpResponse = refl
+any-is k.EditBufferDumpRequest = refl
+any-is k.EditBufferDumpResponse = refl
+any-is k.GlobalParameterDumpRequest = refl
+any-is k.GlobalParameterDumpResponse = refl
+any-is k.SingleUserPatternDumpRequest = refl
+any-is k.UserPatternDumpResponse = refl
+any-is k.ProgramBankDumpRequest = refl
+any-is k.BankProgramNamesDumpRequest = refl
+any-is k.BankProgramNamesDumpResponse = refl
+any-is k.SingleProgramNameDumpRequest = refl
+any-is k.SingleProgramNameDumpResponse = refl
+any-is k.EditBufferPatternDumpRequest = refl
+any-is k.ControlAppNotifyResponse = refl
+any-is k.CalibrationDataDumpRequest = refl
+any-is k.CalibrationDataDumpResponse = refl
+any-is k.ChordMemoryDumpRequest = refl
+any-is k.ChordMemoryDumpResponse = refl
+any-is k.PolyChordMemoryDumpRequest = refl
+any-is k.PolyChordMemoryDumpResponse = refl
+
+unnumbered : (c : Command) (b : Bool) (p : List ℕ) → codeOf c ≡ 0x12 → readFields c b p ≡ readFields c false p
+unnumbered k.ControlAppNotifyRequest b p h = refl
+unnumbered k.ProgramDumpRequest b p h = refl
+unnumbered k.ProgramDumpResponse b p h = refl
+unnumbered k.EditBufferDumpRequest b p h = refl
+unnumbered k.EditBufferDumpResponse b p h = refl
+unnumbered k.GlobalParameterDumpRequest b p h = refl
+unnumbered k.GlobalParameterDumpResponse b p h = refl
+unnumbered k.SingleUserPatternDumpRequest b p h = refl
+unnumbered k.UserPatternDumpResponse b p h = absurd (omega arith)
+unnumbered k.ProgramBankDumpRequest b p h = refl
+unnumbered k.BankProgramNamesDumpRequest b p h = refl
+unnumbered k.BankProgramNamesDumpResponse b p h = refl
+unnumbered k.SingleProgramNameDumpRequest b p h = refl
+unnumbered k.SingleProgramNameDumpResponse b p h = refl
+unnumbered k.EditBufferPatternDumpRequest b p h = refl
+unnumbered k.ControlAppNotifyResponse b p h = refl
+unnumbered k.CalibrationDataDumpRequest b p h = refl
+unnumbered k.CalibrationDataDumpResponse b p h = refl
+unnumbered k.ChordMemoryDumpRequest b p h = refl
+unnumbered k.ChordMemoryDumpResponse b p h = refl
+unnumbered k.PolyChordMemoryDumpRequest b p h = refl
+unnumbered k.PolyChordMemoryDumpResponse b p h = refl
+
+program-small : (v : ℕ) → programDataLength v ≤ 2048
+program-small v = go (eqb v 6)
+  where
+    go : (t : Bool) → pick t 242 245 ≤ 2048
+    go true = omega arith
+    go false = omega arith
+
+-- no named length is above 2,048
+pub raw-small : (c : Command) (v : ℕ) → rawLengthFor c v ≤ 2048
+raw-small k.ControlAppNotifyRequest v = omega arith
+raw-small k.ProgramDumpRequest v = omega arith
+raw-small k.ProgramDumpResponse v = program-small v
+raw-small k.EditBufferDumpRequest v = omega arith
+raw-small k.EditBufferDumpResponse v = program-small v
+raw-small k.GlobalParameterDumpRequest v = omega arith
+raw-small k.GlobalParameterDumpResponse v = omega arith
+raw-small k.SingleUserPatternDumpRequest v = omega arith
+raw-small k.UserPatternDumpResponse v = omega arith
+raw-small k.ProgramBankDumpRequest v = omega arith
+raw-small k.BankProgramNamesDumpRequest v = omega arith
+raw-small k.BankProgramNamesDumpResponse v = omega arith
+raw-small k.SingleProgramNameDumpRequest v = omega arith
+raw-small k.SingleProgramNameDumpResponse v = omega arith
+raw-small k.EditBufferPatternDumpRequest v = omega arith
+raw-small k.ControlAppNotifyResponse v = omega arith
+raw-small k.CalibrationDataDumpRequest v = omega arith
+raw-small k.CalibrationDataDumpResponse v = omega arith
+raw-small k.ChordMemoryDumpRequest v = omega arith
+raw-small k.ChordMemoryDumpResponse v = omega arith
+raw-small k.PolyChordMemoryDumpRequest v = omega arith
+raw-small k.PolyChordMemoryDumpResponse v = omega arith
+
+-- behind the version: the further prefix is missing
+pub run-too-short : (c : Command) (v : ℕ) (p : List ℕ) → length p < prefixLength c → refused 7 (codeOf c ∷ prefixLength c ∷ length p ∷ []) ≡ readRun c v p
+unfolding readRun
+run-too-short c v p h = rw (lt-leb (prefixLength c) (length p) h)
+
+-- the calibration's run
+pub any-run : (c : Command) (v : ℕ) (p : List ℕ) → prefixLength c ≤ length p → codeOf c ≡ 0x12
+    → unless (not (eqb ((length p - prefixLength c) % 8) 1)) 13 ((length p - prefixLength c) ∷ []) (readFields c false p) ≡ readRun c v p
+unfolding readRun
+any-run c v p h e = rw (le-leb (prefixLength c) (length p) h, any-is c, eq-eqb (codeOf c) 0x12 e, unnumbered c (numberedBy (length p)) p e)
+
+-- every other run
+pub named-run : (c : Command) (v : ℕ) (p : List ℕ) (a : Bool) → prefixLength c ≤ length p → (codeOf c ≡ 0x12 → ⊥)
+    → accepted (rawLengthFor c v) (length p - prefixLength c) ≡ a
+    → readRun c v p
+    ≡ wrongLength (a || (optional c && numberedBy (length p))) c (prefixLength c + packedLength (rawLengthFor c v)) p (readFields c (numberedBy (length p)) p)
+unfolding readRun
+named-run c v p a h n e = rw (le-leb (prefixLength c) (length p) h, any-is c, ne-eqb (codeOf c) 0x12 n, e)
+
+pub run-accepted : (c : Command) (v : ℕ) (p : List ℕ) → prefixLength c ≤ length p → (codeOf c ≡ 0x12 → ⊥)
+    → accepted (rawLengthFor c v) (length p - prefixLength c) ≡ true → readRun c v p ≡ readFields c false p
+run-accepted c v p h n e = named-run c v p true h n e ∙ numbered-off c v p e
+
+pub run-numbered : (c : Command) (v : ℕ) (p : List ℕ) → prefixLength c ≤ length p → (codeOf c ≡ 0x12 → ⊥)
+    → accepted (rawLengthFor c v) (length p - prefixLength c) ≡ false → codeOf c ≡ 0x08 → numberedBy (length p) ≡ true → readRun c v p ≡ readFields c true p
+run-numbered c v p h n e o b = named-run c v p false h n e ∙ rw (eq-eqb (codeOf c) 0x08 o, b)
+
+pub run-refused : (c : Command) (v : ℕ) (p : List ℕ) → prefixLength c ≤ length p → (codeOf c ≡ 0x12 → ⊥)
+    → accepted (rawLengthFor c v) (length p - prefixLength c) ≡ false → (optional c && numberedBy (length p)) ≡ false
+    → refused 7 (codeOf c ∷ (prefixLength c + packedLength (rawLengthFor c v)) ∷ length p ∷ []) ≡ readRun c v p
+run-refused c v p h n e o = sym (named-run c v p false h n e ∙ rw o)
+
+-- at least the version is looked for
+pub early-one : (c : Command) → 1 ≤ early c
+early-one c = go (eqb (codeOf c) 0x0B || eqb (codeOf c) 0x0D)
+  where
+    go : (t : Bool) → 1 ≤ pick t 2 1
+    go true = omega arith
+    go false = omega arith
+
+-- a framed list has two bytes
+pub framed-long : (bytes : List ℕ) → framed bytes ≡ true → 2 ≤ length bytes
+framed-long bytes h =
+    let start : Bool = eqb (getD bytes 0 0) 0xF0 in
+    let end : Bool = eqb (getD bytes (length bytes - 1) 0) 0xF7 in
+    leb-true 2 (length bytes) (both (leb 2 (length bytes)) start (both (leb 2 (length bytes) && start) end h .0) .0)
+
+-- the part between the ends, as the code takes it
+pub body-part : (bytes : List ℕ) → take (length bytes - 1 - 1) (drop 1 bytes) ≡ body bytes
+body-part bytes =
+    let e : length bytes - 1 - 1 ≡ length bytes - 2 = omega arith in
+    rw e
+
+-- and the payload
+pub payload-part : (bytes : List ℕ) → take (length bytes - 1 - 7) (drop 7 bytes) ≡ payload bytes
+payload-part bytes =
+    let e : length bytes - 1 - 7 ≡ length bytes - 8 = omega arith in
+    rw e

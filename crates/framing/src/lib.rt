@@ -1,0 +1,79 @@
+// What frames and identity messages share: F0 and F7 at the ends, and bytes below 80 between them.
+ghost use mathlib.Core.Path.{_≡_};
+ghost use lib.ListN.{getD};
+ghost use Rattle.ids.specs.Device.{deviceInRange};
+ghost use Rattle.framing.specs.Framing.{framed, firstHigh, sameBytes};
+use ids::DeviceId;
+
+pub const SYSEX_START: u8 = 0xF0;
+
+pub const SYSEX_END: u8 = 0xF7;
+
+// A byte, or none.
+pub enum MaybeByte {
+    Some(u8),
+    None,
+}
+
+// Do F0 and F7 stand at the ends of at least two bytes?
+pub fn is_framed(bytes: &[u8]) -> bool
+    ensures { λ r. ⌜ r ≡ framed (now (bytes .entry)) ⌝ }
+{
+    let len = bytes.len();
+    if len < 2 {
+        return false;
+    }
+    if bytes[0] != SYSEX_START {
+        return false;
+    }
+    bytes[len - 1] == SYSEX_END
+}
+
+// The first byte of 80 or above.
+pub fn first_high(bytes: &[u8]) -> MaybeByte
+    ensures { λ r. ⌜ r ≡ firstHigh (now (bytes .entry)) ⌝ }
+{
+    let mut i: usize = 0;
+    while i < bytes.len() {
+        let byte = bytes[i];
+        if 0x80 <= byte {
+            return MaybeByte::Some(byte);
+        }
+        i += 1;
+    }
+    MaybeByte::None
+}
+
+// Are the two the same bytes?
+pub fn same_bytes(bytes: &[u8], others: &[u8]) -> bool
+    ensures { λ r. ⌜ r ≡ sameBytes (now (bytes .entry)) (now (others .entry)) ⌝ }
+{
+    if bytes.len() != others.len() {
+        return false;
+    }
+    let mut i: usize = 0;
+    while i < bytes.len() {
+        if bytes[i] != others[i] {
+            return false;
+        }
+        i += 1;
+    }
+    true
+}
+
+// The byte at a place, and 0 behind the last.
+pub fn byte_at(bytes: &[u8], at: usize) -> u8
+    ensures { λ r. ⌜ r ≡ getD (now (bytes .entry)) at 0 ⌝ }
+{
+    if at < bytes.len() { bytes[at] } else { 0 }
+}
+
+// Can the device's byte stand in a frame? A unit above 0F can be made by hand, and has none.
+pub fn device_in_range(device: DeviceId) -> bool
+    ensures { λ r. ⌜ r ≡ deviceInRange device ⌝ }
+{
+    match device {
+        DeviceId::Unit(id) => id < 16,
+        DeviceId::Broadcast => true,
+    }
+}

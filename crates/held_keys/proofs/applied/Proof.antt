@@ -1,0 +1,158 @@
+-- `applied` meets its contract: one word is stored, with the key's bit as the effect has it.
+use Rattle.held_keys.specs.HeldKeys.{effectOf}
+use Rattle.held_keys.specs.declared.Effect.the-variants as e
+use borrow.Author.Tests.{le-ltb, lt-ltb}
+use mathlib.Core.Path.{_≡_, ap, sym, _∙_}
+use mathlib.Core.Bool.{true, false}
+use Prim.Native.Nat.{_<_}
+use native.Mathlib.Omega.{arith}
+use Rattle.held_keys.proofs.Shape.{two-words}
+use Rattle.held_keys.proofs.Keys.{held-stored, key-changed, unchanged, key-small, keyOf}
+use borrow.Author.Needs.{needs}
+use Rattle.held_keys.proofs.applied.Statement.{statement}
+use Rattle.held_keys.proofs.applied.Tie as tie
+
+returns : tie.Need-returns
+returns c = let a = c .before .args in unchanged (a .t1) (a .channel .0) (a .message) (λ k b. rw (le-ltb _ _ (c .if1 .taken)))
+
+cast-at : tie.Need-cast-at
+cast-at c = search needs
+
+effect-of-requires : tie.Need-effect-of-requires
+effect-of-requires c κs = search needs
+
+enum-known-key : tie.Need-enum-known-key
+enum-known-key c = search needs
+
+cast-k : tie.Need-cast-k
+cast-k c = search needs
+
+mul-with-bit : tie.Need-mul-with-bit
+mul-with-bit c = search needs
+
+mul-with-bit-2 : tie.Need-mul-with-bit-2
+mul-with-bit-2 c = search needs
+
+index-1-with-bit : tie.Need-index-1-with-bit
+index-1-with-bit c = search needs
+
+index-2-with-bit : tie.Need-index-2-with-bit
+index-2-with-bit c = let k = c .before .key .given in
+    let s : k .0 .0 < 128 = rw (ap keyOf (sym (sym (k .1) ∙ c .before .before .before .effect-of .ensures))) at (key-small (c .before .before .before .before .before .args .message)) in
+    omega arith
+
+with-bit-requires : tie.Need-with-bit-requires
+with-bit-requires c κs = search needs
+
+mul-next : tie.Need-mul-next
+mul-next c = search needs
+
+mul-next-2 : tie.Need-mul-next-2
+mul-next-2 c = search needs
+
+index-1-next : tie.Need-index-1-next
+index-1-next c = search needs
+
+index-2-next : tie.Need-index-2-next
+index-2-next c = let k = c .before .before .before .key .given in
+    let s : k .0 .0 < 128 = rw (ap keyOf (sym (sym (k .1) ∙ c .before .before .before .before .before .effect-of .ensures))) at (key-small (c .before .before .before .before .before .before .before .args .message)) in
+    omega arith
+
+enum-known-key-2 : tie.Need-enum-known-key-2
+enum-known-key-2 c = search needs
+
+cast-k-2 : tie.Need-cast-k-2
+cast-k-2 c = search needs
+
+mul-without-bit : tie.Need-mul-without-bit
+mul-without-bit c = search needs
+
+mul-without-bit-2 : tie.Need-mul-without-bit-2
+mul-without-bit-2 c = search needs
+
+index-1-without-bit : tie.Need-index-1-without-bit
+index-1-without-bit c = search needs
+
+index-2-without-bit : tie.Need-index-2-without-bit
+index-2-without-bit c = let k = c .before .key2 .given in
+    let s : k .0 .0 < 128 = rw (ap keyOf (sym (sym (k .1) ∙ c .before .before .before .effect-of .ensures))) at (key-small (c .before .before .before .before .before .args .message)) in
+    omega arith
+
+without-bit-requires : tie.Need-without-bit-requires
+without-bit-requires c κs = search needs
+
+mul-next-3 : tie.Need-mul-next-3
+mul-next-3 c = search needs
+
+mul-next-4 : tie.Need-mul-next-4
+mul-next-4 c = search needs
+
+index-1-next-2 : tie.Need-index-1-next-2
+index-1-next-2 c = search needs
+
+index-2-next-2 : tie.Need-index-2-next-2
+index-2-next-2 c = let k = c .before .before .before .key2 .given in
+    let s : k .0 .0 < 128 = rw (ap keyOf (sym (sym (k .1) ∙ c .before .before .before .before .before .effect-of .ensures))) at (key-small (c .before .before .before .before .before .before .before .args .message)) in
+    omega arith
+
+enum-told : tie.Need-enum-told
+enum-told c = search needs
+
+returns-2 : tie.Need-returns-2
+returns-2 c = let s = c .before .before .before .before .before .before .before in
+    let a = s .args in
+    let k = c .before .before .before .key .given in
+    let is : effectOf (a .message) ≡ e.Hold (k .0 .0) = sym (c .before .before .before .before .before .effect-of .ensures) ∙ k .1 in
+    let small : k .0 .0 < 128 = rw (ap keyOf is) at (key-small (a .message)) in
+    let h : a .channel .0 < 16 = c .before .before .before .before .before .before .if1 .left in
+    key-changed (a .t1) (a .channel .0) (a .message) _ (k .0 .0) true h (λ j b. rw is)
+    (held-stored (a .t1) (a .channel .0) (k .0 .0) (c .with-bit .result) true (omega (arith, s .good .0 .1 .0 .1)) (two-words (a .t1) (s .good .0 .0) (a .channel .0) (s .good .0 .1 .1) (omega (arith, s .good .0 .1 .0 .1))) small (c .with-bit .ensures))
+
+returns-3 : tie.Need-returns-3
+returns-3 c = let s = c .before .before .before .before .before .before .before in
+    let a = s .args in
+    let k = c .before .before .before .key2 .given in
+    let is : effectOf (a .message) ≡ e.Release (k .0 .0) = sym (c .before .before .before .before .before .effect-of .ensures) ∙ k .1 in
+    let small : k .0 .0 < 128 = rw (ap keyOf is) at (key-small (a .message)) in
+    let h : a .channel .0 < 16 = c .before .before .before .before .before .before .if1 .left in
+    key-changed (a .t1) (a .channel .0) (a .message) _ (k .0 .0) false h (λ j b. rw is)
+    (held-stored (a .t1) (a .channel .0) (k .0 .0) (c .without-bit .result) false (omega (arith, s .good .0 .1 .0 .1)) (two-words (a .t1) (s .good .0 .0) (a .channel .0) (s .good .0 .1 .1) (omega (arith, s .good .0 .1 .0 .1))) small (c .without-bit .ensures))
+
+returns-4 : tie.Need-returns-4
+returns-4 c = let a = c .before .before .before .before .args in
+    let is : effectOf (a .message) ≡ e.Nothing = sym (c .before .before .effect-of .ensures) ∙ c .enum-told .given .1 in
+    unchanged (a .t1) (a .channel .0) (a .message) (λ k b. rw (lt-ltb _ _ (c .before .before .before .if1 .left), is))
+
+pub applied-spec : {M : Type 1} → statement M
+applied-spec =
+    tie.close
+    (tie.spec
+    returns
+    cast-at
+    effect-of-requires
+    enum-known-key
+    cast-k
+    mul-with-bit
+    mul-with-bit-2
+    index-1-with-bit
+    index-2-with-bit
+    with-bit-requires
+    mul-next
+    mul-next-2
+    index-1-next
+    index-2-next
+    enum-known-key-2
+    cast-k-2
+    mul-without-bit
+    mul-without-bit-2
+    index-1-without-bit
+    index-2-without-bit
+    without-bit-requires
+    mul-next-3
+    mul-next-4
+    index-1-next-2
+    index-2-next-2
+    enum-told
+    returns-2
+    returns-3
+    returns-4)
