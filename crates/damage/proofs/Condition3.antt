@@ -50,7 +50,7 @@ in-front true x = refl
 in-front false x = refl
 
 -- a status byte 80 to F6 reports 18 where a frame is open, and then what it reports in a stream that begins with it
-led-by : (c : Class) (v : ℕ) (xs : List ℕ) (b : ℕ) → Range c b → 0x80 ≤ b → b < 0xF7
+pub led-by : (c : Class) (v : ℕ) (xs : List ℕ) (b : ℕ) → Range c b → 0x80 ≤ b → b < 0xF7
     → (heardIn c v xs b ≡ interruption (isOpen v xs) ++ heardIn c 0 [] b) × (nextStatus c v b ≡ nextStatus c 0 b) × (nextData c xs b ≡ nextData c [] b)
 led-by k.Data v xs b r l h = absurd (omega arith)
 led-by k.Held v xs b r l h = (alone (isOpen v xs), refl, refl)
@@ -61,7 +61,7 @@ led-by k.End v xs b r l h = absurd (omega arith)
 led-by k.Realtime v xs b r l h = absurd (omega arith)
 
 -- a stream that begins with a message's status byte, behind any bytes: its intact reports, led by one 18 if a frame is open there
-begun-read : (t : Tag) (ts us : List Tag) → 0x80 ≤ t .byte → t .byte < 0xF7 → Reads 0 [] (t ∷ ts) → Sent ts us → (past : List ℕ)
+pub begun-read : (t : Tag) (ts us : List Tag) → 0x80 ≤ t .byte → t .byte < 0xF7 → Reads 0 [] (t ∷ ts) → Sent ts us → (past : List ℕ)
     → meaning past (bytes (t ∷ us)) ≡ led (openAt past) (intacts (t ∷ us))
 unfolding meaning heard
 begun-read t ts us low high r w past =
