@@ -1,0 +1,3 @@
+pub mod Named
+pub mod NumbersTold
+pub mod Condition3OfHost

@@ -1,0 +1,63 @@
+-- The numbers of an answer say its reports, because kind, status byte and data tell every report apart.
+use mathlib.Core.Path.{_≡_, refl, ap}
+use mathlib.Core.Bool.{Bool, true, false}
+use mathlib.Core.List.{List, [], _∷_}
+use Prim.Native.Nat.{ℕ, _+_, _*_, _/_, _%_, _<_}
+use native.Mathlib.Omega.{arith}
+use Rattle.refusal.specs.Outcome.{gives, refused}
+use Rattle.wire.specs.declared.Channel.{Channel}
+use Rattle.wire.specs.declared.channel_message.ChannelMessage.{ChannelMessage}
+use Rattle.wire.specs.declared.channel_message.ChannelMessage.the-variants as x
+use Rattle.wire.specs.declared.system_common.SystemCommon.the-variants as y
+use Rattle.wire.specs.declared.real_time.Realtime.{Realtime}
+use Rattle.wire.specs.declared.real_time.Realtime.the-variants as t
+use Rattle.wire.specs.Channel.{statusNibble}
+use Rattle.decoder.specs.declared.Report.{Report}
+use Rattle.decoder.specs.declared.Report.the-variants as r
+use Rattle.decoder.specs.declared.MaybeReport.{MaybeReport}
+use Rattle.decoder.specs.declared.MaybeReport.the-variants as m
+use Rattle.decoder.specs.Reports.{channel, told, reportList, toldAll}
+use Rattle.damage.specs.History.{Told}
+use Rattle.host.specs.Stream.{reportKind, reportStatus, reportFirst, reportSecond, messageFirst, messageSecond, numbersOf}
+use Rattle.host_damage.specs.Numbers.{channelRead, reportRead, toldBy}
+use Rattle.host_damage.proofs.Named.{NamedReport, Named}
+
+-- the two halves of a status byte
+high : (k c : ℕ) → c < 16 → (k * 16 + c) / 16 ≡ k
+high k c h = omega arith
+
+low : (k c : ℕ) → c < 16 → (k * 16 + c) % 16 ≡ c
+low k c h = omega arith
+
+channel-told : (c : ℕ) (m : ChannelMessage) → c < 16
+    → channelRead (statusNibble m + c) (messageFirst m) (messageSecond m) ≡ gives (channel (record { 0 = c }) m) ∷ []
+channel-told c (x.NoteOff a b) h = rw (high 0x8 c h, low 0x8 c h)
+channel-told c (x.NoteOn a b) h = rw (high 0x9 c h, low 0x9 c h)
+channel-told c (x.PolyKeyPressure a b) h = rw (high 0xA c h, low 0xA c h)
+channel-told c (x.ControlChange a b) h = rw (high 0xB c h, low 0xB c h)
+channel-told c (x.ProgramChange a) h = rw (high 0xC c h, low 0xC c h)
+channel-told c (x.ChannelPressure a) h = rw (high 0xD c h, low 0xD c h)
+channel-told c (x.PitchBend a) h = rw (high 0xE c h, low 0xE c h)
+
+report-told : (store : List ℕ) (z : Report) → NamedReport z
+    → reportRead store (reportKind z) (reportStatus z) (reportFirst z) (reportSecond z) ≡ told store z ∷ []
+report-told store (r.Channel c z) n = channel-told (c .0) z n
+report-told store (r.SysEx k) n = refl
+report-told store (r.Common (y.TimeCodeQuarterFrame v)) n = refl
+report-told store (r.Common (y.SongPosition v)) n = refl
+report-told store (r.Common (y.SongSelect v)) n = refl
+report-told store (r.Common y.TuneRequest) n = refl
+report-told store (r.Realtime t.Clock) n = refl
+report-told store (r.Realtime t.Start) n = refl
+report-told store (r.Realtime t.Continue) n = refl
+report-told store (r.Realtime t.Stop) n = refl
+report-told store (r.Realtime t.ActiveSensing) n = refl
+report-told store (r.Realtime t.SystemReset) n = refl
+report-told store r.SysExInterrupted n = refl
+report-told store (r.SysExTooLong k) n = refl
+
+pub numbers-told : (store : List ℕ) (used : ℕ) (i : Bool) (z : MaybeReport) → Named z → toldBy (numbersOf used i z) store ≡ toldAll store (reportList i z)
+numbers-told store used true m.None n = refl
+numbers-told store used false m.None n = refl
+numbers-told store used true (m.Some z) n = ap (λ (l : List Told). refused 18 [] ∷ l) (report-told store z n)
+numbers-told store used false (m.Some z) n = report-told store z n
