@@ -5,8 +5,9 @@
 KIT := rattle-kit-5b-plain logic 097e4c862dff5811
 SOURCES := $(or $(DEEPMIND_SRC),../shared/docs/src)
 CARGO := RUSTFLAGS="-D warnings" cargo
+HAS_SOURCES := [ -d "$(SOURCES)/deepmind-midi" ]
 
-.PHONY: check test kit layout outside bench-origin
+.PHONY: check test kit layout outside lib bench compare
 
 check: kit
 	@rt check
@@ -22,15 +23,26 @@ kit:
 layout:
 	@rt fmt --check
 
-# The bench's words, and the original's answers to them where its sources are at hand.
-outside:
-	@$(CARGO) test --quiet --release --offline --manifest-path compare/Cargo.toml --target-dir target/compare -p words
-	@if [ -d "$(SOURCES)/deepmind-midi" ]; then \
-		$(CARGO) test --quiet --release --offline --manifest-path compare/Cargo.toml --target-dir target/compare -p origin; \
-	else echo "make: the original sources are not at $(SOURCES), so nothing is compared with them"; fi
+# The archive for C and Rust to link, at target/staticlib/libhost.a.
+lib: kit
+	@rt staticlib host > target/lib.log 2>&1 || { tail -n 40 target/lib.log >&2; exit 1; }
 
-# The bench's program over the original, at target/bench-origin.
-bench-origin:
-	@[ -d "$(SOURCES)/deepmind-midi" ] || { echo "make: the original sources are not at $(SOURCES): set DEEPMIND_SRC" >&2; exit 1; }
-	@$(CARGO) build --quiet --release --offline --manifest-path compare/Cargo.toml --target-dir target/compare -p origin
-	@cp target/compare/release/bench-origin target/bench-origin
+# The bench's programs: over the engine at target/bench, and over the original at target/bench-origin where its sources are at hand.
+bench: lib
+	@$(HAS_SOURCES) || { echo "make: the original sources are not at $(SOURCES): set DEEPMIND_SRC" >&2; exit 1; }
+	@$(CARGO) build --quiet --release --offline --manifest-path compare/Cargo.toml --target-dir target/compare
+	@cp target/compare/release/bench target/compare/release/bench-origin target/
+
+# The same requests to the engine and to the original; and that a difference is seen where there is one.
+compare: bench
+	@target/compare/release/compare
+	@! target/compare/release/compare --original-limit 2353 > target/compare.other || { echo "make: an original with another limit was not told apart" >&2; exit 1; }
+
+# The tests that stand outside Rattle.
+outside:
+	@mkdir -p target
+	@$(CARGO) test --quiet --release --offline --manifest-path compare/Cargo.toml --target-dir target/compare -p words
+	@if $(HAS_SOURCES); then \
+		$(CARGO) test --quiet --release --offline --manifest-path compare/Cargo.toml --target-dir target/compare -p origin && \
+		$(MAKE) --no-print-directory compare; \
+	else echo "make: the original sources are not at $(SOURCES), so nothing is compared with them"; fi

@@ -20,6 +20,8 @@ pub enum Answer {
     No(u8, Vec<u64>),
     /// The line is no request, or names what no record names.
     What(String),
+    /// A whole line, for the words that show more than an answer.
+    Whole(String),
     /// This bench cannot say: its types cannot hold the record, or it would not refuse what has to be refused.
     Skip,
 }
@@ -45,6 +47,7 @@ impl Answer {
                 text
             }
             Self::What(why) => format!("? {why}"),
+            Self::Whole(line) => line.clone(),
             Self::Skip => "skip".to_string(),
         }
     }
