@@ -13,9 +13,9 @@ use Rattle.laws.specs.Choice.{pick}
 use Rattle.command.specs.declared.Command.{Command}
 use Rattle.command.specs.declared.Command.the-variants as k
 use Rattle.command.specs.Payload as y
-use Rattle.command.specs.Payload.{Field, payloadOf}
+use Rattle.command.specs.Payload.{payloadOf}
 use Rattle.message.specs.declared.Fields.{Fields}
-use Rattle.message.specs.Wire.{optional, fieldList, wire}
+use Rattle.message.specs.Wire.{optional, fieldList}
 use Rattle.frame_reader.specs.declared.Record.{Record}
 use Rattle.frame_reader.specs.Reader.{numberedBy, prefixLength, payload}
 use Rattle.frame_reader.proofs.Tests.{numbered-short}
@@ -31,18 +31,6 @@ drop-take (suc n) (suc m) [] = sym (take-nil (suc m - suc n))
 drop-take (suc n) (suc m) (x ∷ l) =
     let z : suc m - suc n ≡ m - n = omega arith in
     rw z (drop-take n m l)
-
--- as many bytes as fields
-pub length-wire : (first : Bool) (l : List Field) (f : Fields) → length (wire first l f) ≡ length l
-length-wire first [] f = refl
-length-wire first (y.free ∷ l) f = ap suc (length-wire first l f)
-length-wire first (y.version ∷ l) f = ap suc (length-wire first l f)
-length-wire first (y.bank ∷ l) f = ap suc (length-wire first l f)
-length-wire first (y.program ∷ l) f = ap suc (length-wire false l f)
-length-wire first (y.pattern ∷ l) f = ap suc (length-wire first l f)
-length-wire first (y.receive ∷ l) f = ap suc (length-wire first l f)
-length-wire first (y.transmit ∷ l) f = ap suc (length-wire first l f)
-length-wire first (y.interface ∷ l) f = ap suc (length-wire first l f)
 
 -- a payload that names its pattern has two bytes
 numbered-long : (n : ℕ) → numberedBy n ≡ true → 2 ≤ n

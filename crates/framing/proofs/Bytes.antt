@@ -89,3 +89,12 @@ spelled l n e =
 pub no-high : {A : Type 0} (high : MaybeByte) (next : Outcome A) (a : A) → unlessHigh high next ≡ gives a → (high ≡ m.None) × (next ≡ gives a)
 no-high m.None next a e = (refl, e)
 no-high (m.Some b) next a e = absurd (given-not-refused a 2 (b ∷ []) e)
+
+-- no high byte in two lists: none in the second
+pub high-none-behind : (l k : List ℕ) → firstHigh (l ++ k) ≡ m.None → firstHigh k ≡ m.None
+high-none-behind [] k h = h
+high-none-behind (b ∷ l) k h = go (ltb b 0x80) h (high-none-behind l k)
+  where
+    go : (t : Bool) → pick t (firstHigh (l ++ k)) (m.Some b) ≡ m.None → (firstHigh (l ++ k) ≡ m.None → firstHigh k ≡ m.None) → firstHigh k ≡ m.None
+    go true g rest = rest g
+    go false g rest = let z : _≡_ {A = ℕ} 0 1 = cc in absurd (omega arith)

@@ -6,12 +6,12 @@ use mathlib.Core.List.{List, [], _∷_, _++_}
 use Prim.Native.Nat.{ℕ, zero, suc, _+_, _-_, _≤_, _<_}
 use native.Mathlib.Omega.{arith}
 use lib.Dec.{eqb}
-use lib.ListN.{length, getD, replicate}
+use lib.ListN.{length, getD, take, replicate, length-append, length-replicate}
+use lib.Seq.{take-at}
 use Rattle.laws.specs.Choice.{pick}
 use Rattle.laws.proofs.Zeros.{getD-padded}
 use Rattle.refusal.specs.declared.Refusal.{Refusal}
-use Rattle.refusal.specs.Refusal.{numberOf, valuesOf}
-use Rattle.refusal.specs.Outcome.{Outcome, gives, refusal, unless}
+use Rattle.refusal.specs.Outcome.{Outcome, gives, refusal}
 use Rattle.refusal.proofs.Given.{passed, refused-too}
 use Rattle.ids.specs.declared.ProtocolVersion.{ProtocolVersion}
 use Rattle.ids.specs.Small.{versionOf}
@@ -26,7 +26,7 @@ use Rattle.message.specs.declared.head.Head.{Head}
 use Rattle.message.specs.declared.head.Head.the-variants as h
 use Rattle.message.specs.Head.{commandOfHead, fieldsOf, versionOfHead}
 use Rattle.message.specs.Fields.{patternFields}
-use Rattle.message.specs.Wire.{tag, valueOf, secondOf, optional, fieldList, fieldsIn, fieldsAt, carriesRun, checked, fieldOk, smallChecked, prefixOf, checkedFields}
+use Rattle.message.specs.Wire.{tag, valueOf, secondOf, optional, fieldList, fieldsIn, fieldsAt, carriesRun, checked, fieldOk, smallChecked, wire, prefixOf, Padded, checkedFields}
 
 -- fields are read by their bytes alone: two payloads that agree in the first n bytes give the same
 value-same : (f : Field) (l : List Field) (p q : List ℕ) (i n : ℕ) → i + length l ≤ n → ((j : ℕ) → j < n → getD p j 0 ≡ getD q j 0)
@@ -77,6 +77,21 @@ five-at-most k.ChordMemoryDumpRequest b = omega arith
 five-at-most k.ChordMemoryDumpResponse b = omega arith
 five-at-most k.PolyChordMemoryDumpRequest b = omega arith
 five-at-most k.PolyChordMemoryDumpResponse b = omega arith
+
+-- as many bytes as fields
+pub length-wire : (first : Bool) (l : List Field) (f : Fields) → length (wire first l f) ≡ length l
+length-wire first [] f = refl
+length-wire first (y.free ∷ l) f = ap suc (length-wire first l f)
+length-wire first (y.version ∷ l) f = ap suc (length-wire first l f)
+length-wire first (y.bank ∷ l) f = ap suc (length-wire first l f)
+length-wire first (y.program ∷ l) f = ap suc (length-wire false l f)
+length-wire first (y.pattern ∷ l) f = ap suc (length-wire first l f)
+length-wire first (y.receive ∷ l) f = ap suc (length-wire first l f)
+length-wire first (y.transmit ∷ l) f = ap suc (length-wire first l f)
+length-wire first (y.interface ∷ l) f = ap suc (length-wire first l f)
+
+pub prefix-small : (k : Command) (f : Fields) → length (prefixOf k f) ≤ 5
+prefix-small k f = omega (arith, length-wire true (fieldList k (f .«has_pattern»)) f, five-at-most k (f .«has_pattern»))
 
 -- the first five bytes tell all fields
 five : (p : List ℕ) (j : ℕ) → j < 5 → getD (getD p 0 0 ∷ getD p 1 0 ∷ getD p 2 0 ∷ getD p 3 0 ∷ getD p 4 0 ∷ []) j 0 ≡ getD p j 0
@@ -218,3 +233,11 @@ version-lacking h.ChordMemoryDumpRequest q = refl
 version-lacking (h.ChordMemoryDumpResponse a) q = let z : _≡_ {A = ℕ} 0 1 = cc in absurd (omega arith)
 version-lacking h.PolyChordMemoryDumpRequest q = refl
 version-lacking (h.PolyChordMemoryDumpResponse a) q = let z : _≡_ {A = ℕ} 0 1 = cc in absurd (omega arith)
+
+-- a prefix kept with zeros behind it: its length, and its bytes
+pub padded-length : (bytes kept : List ℕ) (len : ℕ) → length bytes ≤ 5 → Padded bytes len kept → length kept ≡ 5
+padded-length bytes kept len h p = ap length (p .is) ∙ simp (length-append, length-replicate) (omega arith)
+
+pub padded-front : (bytes kept : List ℕ) (len : ℕ) → Padded bytes len kept → take len kept ≡ bytes
+padded-front bytes kept len p =
+    ap (λ (l : List ℕ). take len l) (p .is) ∙ take-at bytes (replicate (5 - length bytes) 0) len (sym (p .long))

@@ -1,5 +1,6 @@
 -- `run_of` meets its contract: the part behind the prefix, which every accepted frame has.
-use Rattle.frame_reader.proofs.RunPlace.{prefix-there, length-wire, run-part}
+use Rattle.frame_reader.proofs.RunPlace.{prefix-there, run-part}
+use Rattle.message.proofs.ByKind.{length-wire}
 use Rattle.frame_reader.proofs.Accepted.{described}
 use Rattle.frame_reader.specs.Reader.{recordTold}
 use Rattle.message.specs.Wire.{fieldList}

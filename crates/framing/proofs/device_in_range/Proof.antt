@@ -2,8 +2,6 @@
 use borrow.Author.Needs.{needs}
 use Rattle.framing.proofs.device_in_range.Statement.{statement}
 use Rattle.framing.proofs.device_in_range.Tie as tie
-use Rattle.framing.proofs.device_in_range.Reads as reads
-use Rattle.framing.proofs.device_in_range.Lts as lts
 
 enum-known-device : tie.Need-enum-known-device
 enum-known-device c = search needs

@@ -1,0 +1,84 @@
+-- The writer's last two answers: 2 for a high byte with the buffer untouched, or the whole row at the front.
+use mathlib.Core.Path.{_≡_, ap, sym, subst, _∙_}
+use mathlib.Core.Bool.{true, false}
+use mathlib.Core.List.{List, [], _∷_, _++_}
+use Prim.Native.Nat.{ℕ, _+_, _^_, _≤_, _<_}
+use native.Mathlib.Omega.{arith}
+use lib.Dec.{ltb, leb}
+use lib.ListN.{length, drop, length-append}
+use borrow.Author.Tests.{le-leb, lt-leb}
+use Rattle.refusal.specs.declared.Refusal.the-variants as r
+use Rattle.refusal.specs.declared.Count.{Count}
+use Rattle.refusal.specs.declared.Count.the-variants as c
+use Rattle.refusal.specs.Outcome.{gives, unless, Writes}
+use Rattle.refusal.proofs.Given.{passed-on}
+use Rattle.refusal.proofs.Written.{counted-first, stopped, went-on}
+use Rattle.ids.specs.declared.DeviceId.{DeviceId}
+use Rattle.ids.specs.Device.{deviceByte}
+use Rattle.command.specs.declared.Command.{Command}
+use Rattle.command.specs.Command.{codeOf}
+use Rattle.message.specs.declared.Fields.{Fields}
+use Rattle.message.specs.Wire.{carriesRun, prefixOf, checkedFields}
+use Rattle.framing.specs.declared.MaybeByte.the-variants as m
+use Rattle.framing.specs.Framing.{firstHigh}
+use Rattle.frame_writer.specs.Writer.{row, ownRun, lengthFor, sevenBitWrite, roomWrite, fieldsWrite}
+
+pub seven-refused : (d : DeviceId) (k : Command) (prefix run out : List ℕ) (b : ℕ) → firstHigh (prefix ++ run) ≡ m.Some b
+    → Writes (sevenBitWrite d k prefix run) (c.Err (r.NotSevenBit b)) out out
+seven-refused d k prefix run out b e = record { answers = rw e; leaves = rw e }
+
+pub length-row : (d k : ℕ) (prefix run : List ℕ) → length (row d k prefix run) ≡ 8 + (length prefix + length run)
+length-row d k prefix run = simp length-append (omega arith)
+
+pub seven-written : (d : DeviceId) (k : Command) (prefix run out later : List ℕ) (n : ℕ) → firstHigh (prefix ++ run) ≡ m.None
+    → n ≡ 8 + length prefix + length run
+    → later ≡ row (deviceByte d) (codeOf k) prefix run ++ drop (8 + (length prefix + length run)) out
+    → Writes (sevenBitWrite d k prefix run) (c.Ok n) out later
+seven-written d k prefix run out later n e f l =
+    let count : length (row (deviceByte d) (codeOf k) prefix run) ≡ 8 + (length prefix + length run) = length-row (deviceByte d) (codeOf k) prefix run in
+    let same : n ≡ length (row (deviceByte d) (codeOf k) prefix run) = omega (arith, count, f) in
+    record {
+      answers = rw e (ap (λ (x : ℕ). gives x) same);
+      leaves = rw e (l ∙ ap (λ (x : ℕ). row (deviceByte d) (codeOf k) prefix run ++ drop x out) (sym count));
+    }
+
+-- the length that was given
+pub needed-none : (k : Command) (prefix run n : ℕ) → carriesRun k ≡ false → gives n ≡ lengthFor k prefix run → n ≡ 8 + prefix
+needed-none k prefix run n none e =
+    let g : gives n ≡ unless (ltb (8 + prefix + 0) (2 ^ 64)) 22 [] (gives (8 + prefix + 0)) = rw none at e in
+    let given : gives (8 + prefix + 0) ≡ gives n = passed-on (ltb (8 + prefix + 0) (2 ^ 64)) 22 [] (gives (8 + prefix + 0)) n (sym g) in
+    let same : 8 + prefix + 0 ≡ n = cc in
+    omega arith
+
+pub needed-run : (k : Command) (prefix run n : ℕ) → carriesRun k ≡ true → gives n ≡ lengthFor k prefix run → n ≡ 8 + prefix + run
+needed-run k prefix run n there e =
+    let g : gives n ≡ unless (ltb (8 + prefix + run) (2 ^ 64)) 22 [] (gives (8 + prefix + run)) = rw there at e in
+    let given : gives (8 + prefix + run) ≡ gives n = passed-on (ltb (8 + prefix + run) (2 ^ 64)) 22 [] (gives (8 + prefix + run)) n (sym g) in
+    let same : 8 + prefix + run ≡ n = cc in
+    omega arith
+
+-- fields tested and length given: 14, or what follows
+module _ (d : DeviceId) (k : Command) (f own : Fields) (run out : List ℕ) (n len : ℕ) (tested : gives own ≡ checkedFields k f)
+    (long : len ≡ length (prefixOf k f)) (counted : gives n ≡ lengthFor k len (length run)) where
+  in-room : (a : Count) (later : List ℕ) → Writes (roomWrite d k (prefixOf k f) (ownRun k run) (length out) n) a out later
+      → Writes (fieldsWrite d k f run (length out)) a out later
+  in-room a later w =
+      counted-first (checkedFields k f) _ own a out later tested
+      (counted-first (lengthFor k (length (prefixOf k f)) (length run)) _ n a out later (counted ∙ ap (λ (l : ℕ). lengthFor k l (length run)) long) w)
+
+  pub fields-no-room : length out < n → Writes (fieldsWrite d k f run (length out)) (c.Err (r.BufferTooSmall n (length out))) out out
+  fields-no-room less = in-room _ out (stopped (leb n (length out)) (r.BufferTooSmall n (length out)) _ out (lt-leb n (length out) less))
+
+  pub fields-written : (prefix rest : List ℕ) (a : Count) (later : List ℕ) → n ≤ length out → prefix ≡ prefixOf k f → rest ≡ ownRun k run
+      → Writes (sevenBitWrite d k prefix rest) a out later → Writes (fieldsWrite d k f run (length out)) a out later
+  fields-written prefix rest a later room p q w =
+      in-room a later
+      (went-on (leb n (length out)) 14 (n ∷ length out ∷ []) _ a out later (le-leb n (length out) room)
+      (subst (λ (x : List ℕ). Writes (sevenBitWrite d k x (ownRun k run)) a out later) p (subst (λ (x : List ℕ). Writes (sevenBitWrite d k prefix x) a out later) q w)))
+
+-- the same command and fields, said otherwise
+pub same-fields : (d : DeviceId) (k l : Command) (f g : Fields) (run out later : List ℕ) (a : Count) → k ≡ l → f ≡ g
+    → Writes (fieldsWrite d k f run (length out)) a out later → Writes (fieldsWrite d l g run (length out)) a out later
+same-fields d k l f g run out later a p q w =
+    subst (λ (x : Command). Writes (fieldsWrite d x g run (length out)) a out later) p
+    (subst (λ (x : Fields). Writes (fieldsWrite d k x run (length out)) a out later) q w)

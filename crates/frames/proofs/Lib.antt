@@ -1,0 +1,5 @@
+pub mod Rows
+pub mod RunLengths
+pub mod RoundTrip
+pub mod Complete
+pub mod Heads

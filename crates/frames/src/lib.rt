@@ -1,0 +1,1 @@
+// Theorems about frames as they are read and written; no code of its own.
