@@ -1,3 +1,4 @@
 pub mod Bits
 pub mod Shape
 pub mod Keys
+pub mod First
