@@ -1,4 +1,5 @@
 pub mod Bits
-pub mod Shape
+pub mod First
 pub mod Keys
 pub mod Reached
+pub mod Shape
