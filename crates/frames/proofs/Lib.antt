@@ -3,3 +3,4 @@ pub mod RunLengths
 pub mod RoundTrip
 pub mod Complete
 pub mod Heads
+pub mod BodyLow
