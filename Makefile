@@ -25,6 +25,7 @@ layout:
 
 # The archive for C and Rust to link, at target/staticlib/libhost.a.
 lib: kit
+	@mkdir -p target
 	@rt staticlib host > target/lib.log 2>&1 || { tail -n 40 target/lib.log >&2; exit 1; }
 
 # The bench's programs: over the engine at target/bench, and over the original at target/bench-origin where its sources are at hand.
@@ -40,7 +41,6 @@ compare: bench
 
 # The tests that stand outside Rattle.
 outside:
-	@mkdir -p target
 	@$(CARGO) test --quiet --release --offline --manifest-path compare/Cargo.toml --target-dir target/compare -p words
 	@if $(HAS_SOURCES); then \
 		$(CARGO) test --quiet --release --offline --manifest-path compare/Cargo.toml --target-dir target/compare -p origin && \
