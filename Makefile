@@ -4,6 +4,7 @@
 
 KIT := rattle-kit-5b-plain logic 097e4c862dff5811
 SOURCES := $(or $(DEEPMIND_SRC),../shared/docs/src)
+HOST := $(patsubst crates/%/src/lib.rt,%,$(shell grep -ls no_mangle crates/*/src/lib.rt))
 CARGO := RUSTFLAGS="-D warnings" cargo
 HAS_SOURCES := [ -d "$(SOURCES)/deepmind-midi" ]
 
@@ -23,10 +24,16 @@ kit:
 layout:
 	@rt fmt --check
 
-# The archive for C and Rust to link, at target/staticlib/libhost.a.
+# The archive for C and Rust to link, at target/staticlib/libcobnutdrill.a: the entry points of every crate host_*.
 lib: kit
-	@mkdir -p target
-	@rt staticlib host > target/lib.log 2>&1 || { tail -n 40 target/lib.log >&2; exit 1; }
+	@command -v ar > /dev/null || { echo "make: ar is needed (binutils)" >&2; exit 1; }
+	@mkdir -p target/host
+	@for name in $(HOST); do \
+		rt staticlib $$name > target/lib.log 2>&1 || { tail -n 40 target/lib.log >&2; exit 1; }; \
+		(cd target/host && ar x ../staticlib/lib$$name.a) || exit 1; \
+	done
+	@rm -f target/staticlib/libcobnutdrill.a
+	@ar rcs target/staticlib/libcobnutdrill.a $(HOST:%=target/host/%.o)
 
 # The bench's programs: over the engine at target/bench, and over the original at target/bench-origin where its sources are at hand.
 bench: lib

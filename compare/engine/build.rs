@@ -7,7 +7,7 @@ fn main() {
     println!("cargo:rerun-if-env-changed=ENGINE_LIB");
     let here = PathBuf::from(env::var_os("CARGO_MANIFEST_DIR").unwrap_or_default());
     let folder = env::var_os("ENGINE_LIB").map_or_else(|| here.join("../../target/staticlib"), PathBuf::from);
-    println!("cargo:rerun-if-changed={}", folder.join("libhost.a").display());
+    println!("cargo:rerun-if-changed={}", folder.join("libcobnutdrill.a").display());
     println!("cargo:rustc-link-search=native={}", folder.display());
-    println!("cargo:rustc-link-lib=static=host");
+    println!("cargo:rustc-link-lib=static=cobnutdrill");
 }

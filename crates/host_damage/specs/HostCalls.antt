@@ -7,8 +7,8 @@ use Rattle.laws.specs.Choice.{pick}
 use Rattle.decoder.specs.State.{limit}
 use Rattle.damage.specs.History.{Told}
 use Rattle.damage.specs.Calls.{Call, give, lend-short, Heard, belonging, countOf}
-use Rattle.host.specs.declared.stream.FedAnswer.{FedAnswer}
-use Rattle.host.specs.Stream.{feedCall, StreamFed}
+use Rattle.decoder_bytes.specs.declared.reports.FedAnswer.{FedAnswer}
+use Rattle.host_stream.specs.Stream.{feedCall, StreamFed}
 use Rattle.host_damage.specs.Numbers.{toldBy, usedOf}
 
 -- a call's reports stand at the last byte that it used; a refused call has none

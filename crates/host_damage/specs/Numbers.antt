@@ -11,7 +11,7 @@ use Rattle.wire.specs.declared.system_common.SystemCommon.the-variants as y
 use Rattle.wire.specs.Realtime.{realtimeOf}
 use Rattle.decoder.specs.Reports.{channel, common, frame}
 use Rattle.damage.specs.History.{Told, heardRealtime}
-use Rattle.host.specs.declared.stream.FedAnswer.{FedAnswer}
+use Rattle.decoder_bytes.specs.declared.reports.FedAnswer.{FedAnswer}
 
 -- a channel message on the channel that the status byte's low four bits name
 abbrev pub onChannel : ℕ → ChannelMessage → List Told

@@ -1,0 +1,81 @@
+-- A state's bytes say the state, because each field has bytes of its own and a length below 2 to the 64th is its eight digits.
+use mathlib.Core.Path.{_≡_, refl, ap, sym, _∙_}
+use mathlib.Core.Bool.{Bool, true, false}
+use mathlib.Core.List.{List, [], _∷_, _++_, append-nil}
+use Prim.Native.Nat.{ℕ, _+_, _*_, _/_, _%_, _^_, _≤_, _<_}
+use native.Mathlib.Omega.{arith}
+use lib.Dec.{eqb}
+use lib.ListN.{length, drop-of-length-le}
+use lib.Seq.{sets, sets-eq}
+use borrow.Author.Tests.{eqb-true}
+use Rattle.laws.proofs.Tests.{both}
+use Rattle.decoder.specs.declared.RunningStatus.{RunningStatus}
+use Rattle.decoder.specs.declared.RunningStatus.the-variants as s
+use Rattle.decoder.specs.declared.Decoder.{Decoder}
+use Rattle.decoder.specs.State.{fresh}
+use Rattle.decoder_bytes.specs.State.{encoded, isState, stateLength, stateOf}
+
+-- stores one after another that fill a whole list
+pub stored-all : (l vs : List ℕ) → length l ≡ length vs → sets l 0 vs ≡ vs
+stored-all l vs e =
+    let room : 0 + length vs ≤ length l = omega arith in
+    let all : length l ≤ 0 + length vs = omega arith in
+    sets-eq vs l 0 room ∙ ap (λ (t : List ℕ). vs ++ t) (drop-of-length-le l all) ∙ append-nil vs
+
+-- a fresh state is fourteen bytes 00
+pub fresh-bytes : encoded fresh ≡ 0 ∷ 0 ∷ 0 ∷ 0 ∷ 0 ∷ 0 ∷ 0 ∷ 0 ∷ 0 ∷ 0 ∷ 0 ∷ 0 ∷ 0 ∷ 0 ∷ []
+fresh-bytes = refl
+
+-- every state's bytes are a state's
+pub encoded-is-state : (d : Decoder) → isState (encoded d) ≡ true
+encoded-is-state d = go (d .in_sysex) (d .status)
+  where
+    go : (b : Bool) (v : RunningStatus) → isState (encoded (record { in_sysex = b; len = d .len; status = v; have = d .have; data0 = d .data0; data1 = d .data1 })) ≡ true
+    go true s.None = refl
+    go true (s.Status x) = refl
+    go false s.None = refl
+    go false (s.Status x) = refl
+
+-- four digits of a number, low first
+four-digits : (n : ℕ) → n % 256 + 256 * (n / 0x100 % 256) + 65_536 * (n / 0x1_0000 % 256) + 16_777_216 * (n / 0x100_0000 % 256) ≡ n % 0x1_0000_0000
+four-digits n =
+    let one : n / 0x1_0000 ≡ n / 0x100 / 0x100 = omega arith in
+    let two : n / 0x100_0000 ≡ n / 0x100 / 0x100 / 0x100 = omega arith in
+    rw (one, two) (steps n (n / 0x100) (n / 0x100 / 0x100) (omega arith) (omega arith))
+  where
+    steps : (n a b : ℕ) → n / 0x100 ≡ a → a / 0x100 ≡ b
+        → n % 256 + 256 * (a % 256) + 65_536 * (b % 256) + 16_777_216 * (b / 0x100 % 256) ≡ n % 0x1_0000_0000
+    steps n a b p q = omega arith
+
+eight-digits : (n : ℕ) → n < 2 ^ 64
+    → (n % 256 + 256 * (n / 0x100 % 256) + 65_536 * (n / 0x1_0000 % 256) + 16_777_216 * (n / 0x100_0000 % 256))
+    + 4_294_967_296 * (n / 0x1_0000_0000 % 256 + 256 * (n / 0x100_0000_0000 % 256) + 65_536 * (n / 0x1_0000_0000_0000 % 256) + 16_777_216 * (n / 0x100_0000_0000_0000 % 256))
+    ≡ n
+eight-digits n h =
+    let high = n / 0x1_0000_0000 in
+    let b : n / 0x100_0000_0000 ≡ high / 0x100 = omega arith in
+    let c : n / 0x1_0000_0000_0000 ≡ high / 0x1_0000 = omega arith in
+    let d : n / 0x100_0000_0000_0000 ≡ high / 0x100_0000 = omega arith in
+    rw (four-digits n, b, c, d, four-digits (n / 0x1_0000_0000)) (together n h)
+  where
+    together : (n : ℕ) → n < 2 ^ 64 → n % 0x1_0000_0000 + 4_294_967_296 * (n / 0x1_0000_0000 % 0x1_0000_0000) ≡ n
+    together n h = omega arith
+
+-- and say it: nothing is lost
+pub state-read-back : (d : Decoder) → d .len < 2 ^ 64 → stateOf (encoded d) ≡ d
+state-read-back d h = go (d .in_sysex) (d .status)
+  where
+    digits : stateLength (encoded d) ≡ d .len
+    digits = eight-digits (d .len) h
+
+    go : (b : Bool) (v : RunningStatus)
+        → stateOf (encoded (record { in_sysex = b; len = d .len; status = v; have = d .have; data0 = d .data0; data1 = d .data1 }))
+        ≡ record { in_sysex = b; len = d .len; status = v; have = d .have; data0 = d .data0; data1 = d .data1 }
+    go true s.None = ap (λ (n : ℕ). record { in_sysex = true; len = n; status = s.None; have = d .have; data0 = d .data0; data1 = d .data1 }) digits
+    go true (s.Status x) = ap (λ (n : ℕ). record { in_sysex = true; len = n; status = s.Status x; have = d .have; data0 = d .data0; data1 = d .data1 }) digits
+    go false s.None = ap (λ (n : ℕ). record { in_sysex = false; len = n; status = s.None; have = d .have; data0 = d .data0; data1 = d .data1 }) digits
+    go false (s.Status x) = ap (λ (n : ℕ). record { in_sysex = false; len = n; status = s.Status x; have = d .have; data0 = d .data0; data1 = d .data1 }) digits
+
+-- bytes that are a state's are fourteen
+pub state-is-long : (bytes : List ℕ) → isState bytes ≡ true → length bytes ≡ 14
+state-is-long bytes h = eqb-true (length bytes) 14 (both (eqb (length bytes) 14) _ h .0)

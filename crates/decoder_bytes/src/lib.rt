@@ -1,0 +1,112 @@
+// A decoder's state as STATE_LEN bytes that the caller keeps: the frame flag, the frame's length so far (eight bytes, low byte first), the
+// status flag, the status, how many data bytes are pending, and the two data bytes.
+ghost use mathlib.Core.Path.{_≡_};
+ghost use Prim.Native.Nat.{_+_, _*_, _<_};
+ghost use lib.ListN.{length};
+ghost use Rattle.decoder_bytes.specs.State.{isState, stateOf, stateLength, statusOf, statusFlag, statusByte, encoded};
+use decoder::Decoder;
+use decoder::RunningStatus;
+
+pub mod reports;
+
+pub use reports::FedAnswer;
+
+pub const STATE_LEN: usize = 14;
+
+pub fn is_state(state: &[u8]) -> bool
+    ensures { λ r. ⌜ r ≡ isState (now (state .entry)) ⌝ }
+{
+    if state.len() != STATE_LEN {
+        return false;
+    }
+    if 1 < state[0] {
+        return false;
+    }
+    if 1 < state[9] {
+        return false;
+    }
+    if state[9] == 1 {
+        return true;
+    }
+    state[10] == 0
+}
+
+// Four bytes, low byte first.
+fn four(a: u8, b: u8, c: u8, d: u8) -> usize
+    ensures { λ r. ⌜ (r ≡ a + 256 * b + 65_536 * c + 16_777_216 * d) × (r < 4_294_967_296) ⌝ }
+{
+    (a as usize) + 256 * (b as usize) + 65_536 * (c as usize) + 16_777_216 * (d as usize)
+}
+
+fn length_of(state: &[u8]) -> usize
+    requires { ⌜ length (now state) ≡ 14 ⌝ }
+    ensures { λ r. ⌜ r ≡ stateLength (now (state .entry)) ⌝ }
+{
+    let low = four(state[1], state[2], state[3], state[4]);
+    let high = four(state[5], state[6], state[7], state[8]);
+    low + 4_294_967_296 * high
+}
+
+fn status_of(flag: u8, status: u8) -> RunningStatus
+    ensures { λ r. ⌜ r ≡ statusOf flag status ⌝ }
+{
+    if flag == 1 {
+        RunningStatus::Status(status)
+    } else {
+        RunningStatus::None
+    }
+}
+
+pub fn state_of(state: &[u8]) -> Decoder
+    requires { ⌜ length (now state) ≡ 14 ⌝ }
+    ensures { λ r. ⌜ r ≡ stateOf (now (state .entry)) ⌝ }
+{
+    Decoder {
+        in_sysex: state[0] == 1,
+        len: length_of(state),
+        status: status_of(state[9], state[10]),
+        have: state[11],
+        data0: state[12],
+        data1: state[13],
+    }
+}
+
+fn status_flag(status: RunningStatus) -> u8
+    ensures { λ r. ⌜ r ≡ statusFlag status ⌝ }
+{
+    match status {
+        RunningStatus::None => 0,
+        RunningStatus::Status(_) => 1,
+    }
+}
+
+fn status_byte(status: RunningStatus) -> u8
+    ensures { λ r. ⌜ r ≡ statusByte status ⌝ }
+{
+    match status {
+        RunningStatus::None => 0,
+        RunningStatus::Status(byte) => byte,
+    }
+}
+
+pub fn put_state(d: Decoder, state: &mut [u8])
+    requires { ⌜ length (now state) ≡ 14 ⌝ }
+    ensures { λ _. ⌜ now (state .exit) ≡ encoded d ⌝ }
+{
+    let len = d.len;
+    let status = d.status;
+    state[0] = boundary::flag_of(d.in_sysex);
+    state[1] = (len % 256) as u8;
+    state[2] = (len / 0x100 % 256) as u8;
+    state[3] = (len / 0x1_0000 % 256) as u8;
+    state[4] = (len / 0x100_0000 % 256) as u8;
+    state[5] = (len / 0x1_0000_0000 % 256) as u8;
+    state[6] = (len / 0x100_0000_0000 % 256) as u8;
+    state[7] = (len / 0x1_0000_0000_0000 % 256) as u8;
+    state[8] = (len / 0x100_0000_0000_0000 % 256) as u8;
+    state[9] = status_flag(status);
+    state[10] = status_byte(status);
+    state[11] = d.have;
+    state[12] = d.data0;
+    state[13] = d.data1;
+}

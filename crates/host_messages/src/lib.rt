@@ -1,0 +1,100 @@
+// Channel, system common and real-time messages on the wire.
+ghost use mathlib.Core.Path.{_≡_};
+ghost use lib.ListN.{length};
+ghost use Rattle.wire.specs.Status.{channelDataLength};
+ghost use Rattle.wire.specs.Common.{commonStatus};
+ghost use Rattle.wire.specs.Realtime.{realtimeOf};
+ghost use Rattle.host_messages.specs.Messages.{lengthAnswer, realtimeAnswer, channelKind, ChannelSent, CommonSent, RealtimeSent};
+use boundary::Answer;
+use wire::Channel;
+use wire::ChannelMessage;
+use wire::CommonStatus;
+use wire::MaybeChannelMessage;
+use wire::MaybeCommonStatus;
+use wire::MaybeLen;
+use wire::MaybeRealtime;
+use wire::Realtime;
+
+// How many data bytes follow a channel status byte; NO_RECORD for any other byte.
+#[no_mangle]
+pub extern "C" fn dm_data_len(status: u8) -> Answer
+    ensures { λ r. ⌜ r ≡ lengthAnswer (channelDataLength status) ⌝ }
+{
+    match ChannelMessage::data_len_for(status) {
+        MaybeLen::Some(n) => boundary::done(n as u64),
+        MaybeLen::None => boundary::no_record(),
+    }
+}
+
+// The byte of a real-time message; NO_RECORD for any other byte.
+#[no_mangle]
+pub extern "C" fn dm_realtime(byte: u8) -> Answer
+    ensures { λ r. ⌜ r ≡ realtimeAnswer (realtimeOf byte) ⌝ }
+{
+    match Realtime::from_status(byte) {
+        MaybeRealtime::Some(message) => boundary::done(message.to_status() as u64),
+        MaybeRealtime::None => boundary::no_record(),
+    }
+}
+
+// The message of a status nibble and its data: a is the whole of a bend, and the first data byte of every other message.
+fn of_nibble(nibble: u8, a: u16, b: u8) -> MaybeChannelMessage
+    ensures { λ r. ⌜ r ≡ channelKind nibble a b ⌝ }
+{
+    let first = (a % 256) as u8;
+    match nibble {
+        0x80 => MaybeChannelMessage::Some(ChannelMessage::NoteOff {
+            key: first,
+            velocity: b,
+        }),
+        0x90 => MaybeChannelMessage::Some(ChannelMessage::NoteOn {
+            key: first,
+            velocity: b,
+        }),
+        0xA0 => MaybeChannelMessage::Some(ChannelMessage::PolyKeyPressure {
+            key: first,
+            pressure: b,
+        }),
+        0xB0 => MaybeChannelMessage::Some(ChannelMessage::ControlChange {
+            controller: first,
+            value: b,
+        }),
+        0xC0 => MaybeChannelMessage::Some(ChannelMessage::ProgramChange { program: first }),
+        0xD0 => MaybeChannelMessage::Some(ChannelMessage::ChannelPressure { pressure: first }),
+        0xE0 => MaybeChannelMessage::Some(ChannelMessage::PitchBend { value: a }),
+        _ => MaybeChannelMessage::None,
+    }
+}
+
+#[no_mangle]
+pub extern "C" fn dm_channel_write(nibble: u8, channel: u8, a: u16, b: u8, out: &mut [u8]) -> Answer
+    ensures { λ r. ⌜ ChannelSent (channelKind nibble a b) channel r (now (out .entry)) (now (out .exit)) ⌝ }
+{
+    match of_nibble(nibble, a, b) {
+        MaybeChannelMessage::Some(message) => boundary::count(message.encode_into(
+            Channel(channel),
+            out,
+        )),
+        MaybeChannelMessage::None => boundary::no_record(),
+    }
+}
+
+#[no_mangle]
+pub extern "C" fn dm_common_write(status: u8, value: u16, out: &mut [u8]) -> Answer
+    ensures { λ r. ⌜ CommonSent (commonStatus status) value r (now (out .entry)) (now (out .exit)) ⌝ }
+{
+    match CommonStatus::from_status(status) {
+        MaybeCommonStatus::Some(kind) => boundary::count(kind.encode_into(value, out)),
+        MaybeCommonStatus::None => boundary::no_record(),
+    }
+}
+
+#[no_mangle]
+pub extern "C" fn dm_realtime_write(byte: u8, out: &mut [u8]) -> Answer
+    ensures { λ r. ⌜ RealtimeSent (realtimeOf byte) r (now (out .entry)) (now (out .exit)) ⌝ }
+{
+    match Realtime::from_status(byte) {
+        MaybeRealtime::Some(message) => boundary::count(message.encode_into(out)),
+        MaybeRealtime::None => boundary::no_record(),
+    }
+}

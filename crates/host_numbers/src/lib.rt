@@ -1,0 +1,100 @@
+// The small numbers, each from a byte: the number inside, or the refusal.
+ghost use mathlib.Core.Path.{_≡_};
+ghost use Rattle.refusal.specs.Outcome.{gives, andThen};
+ghost use Rattle.ids.specs.Small.{bankOf, programOf, patternOf, versionOf, programDataLength};
+ghost use Rattle.ids.specs.Device.{deviceOf, deviceByte};
+ghost use Rattle.command.specs.Command.{commandOf, codeOf};
+ghost use Rattle.wire.specs.Channel.{channelOf};
+ghost use Rattle.message.specs.Interface.{interfaceOf, interfaceByte};
+ghost use Rattle.boundary.specs.Answer.{answerOf};
+use boundary::Answer;
+
+#[no_mangle]
+pub extern "C" fn dm_bank(byte: u8) -> Answer
+    ensures { λ r. ⌜ r ≡ answerOf (andThen (bankOf byte) (λ x. gives (x .0))) ⌝ }
+{
+    match ids::Bank::new(byte) {
+        ids::BankAnswer::Ok(bank) => boundary::done(bank.index() as u64),
+        ids::BankAnswer::Err(e) => boundary::refused(e),
+    }
+}
+
+#[no_mangle]
+pub extern "C" fn dm_program(byte: u8) -> Answer
+    ensures { λ r. ⌜ r ≡ answerOf (andThen (programOf byte) (λ x. gives (x .0))) ⌝ }
+{
+    match ids::ProgramNumber::new(byte) {
+        ids::ProgramAnswer::Ok(program) => boundary::done(program.get() as u64),
+        ids::ProgramAnswer::Err(e) => boundary::refused(e),
+    }
+}
+
+#[no_mangle]
+pub extern "C" fn dm_pattern(byte: u8) -> Answer
+    ensures { λ r. ⌜ r ≡ answerOf (andThen (patternOf byte) (λ x. gives (x .0))) ⌝ }
+{
+    match ids::PatternNumber::new(byte) {
+        ids::PatternAnswer::Ok(pattern) => boundary::done(pattern.get() as u64),
+        ids::PatternAnswer::Err(e) => boundary::refused(e),
+    }
+}
+
+#[no_mangle]
+pub extern "C" fn dm_version(byte: u8) -> Answer
+    ensures { λ r. ⌜ r ≡ answerOf (andThen (versionOf byte) (λ x. gives (x .0))) ⌝ }
+{
+    match ids::ProtocolVersion::new(byte) {
+        ids::VersionAnswer::Ok(version) => boundary::done(version.get() as u64),
+        ids::VersionAnswer::Err(e) => boundary::refused(e),
+    }
+}
+
+#[no_mangle]
+pub extern "C" fn dm_program_data_len(byte: u8) -> Answer
+    ensures { λ r. ⌜ r ≡ answerOf (andThen (versionOf byte) (λ x. gives (programDataLength (x .0)))) ⌝ }
+{
+    match ids::ProtocolVersion::new(byte) {
+        ids::VersionAnswer::Ok(version) => boundary::done(version.program_data_len() as u64),
+        ids::VersionAnswer::Err(e) => boundary::refused(e),
+    }
+}
+
+#[no_mangle]
+pub extern "C" fn dm_device(byte: u8) -> Answer
+    ensures { λ r. ⌜ r ≡ answerOf (andThen (deviceOf byte) (λ x. gives (deviceByte x))) ⌝ }
+{
+    match ids::DeviceId::from_byte(byte) {
+        ids::DeviceAnswer::Ok(device) => boundary::done(device.to_byte() as u64),
+        ids::DeviceAnswer::Err(e) => boundary::refused(e),
+    }
+}
+
+#[no_mangle]
+pub extern "C" fn dm_channel(byte: u8) -> Answer
+    ensures { λ r. ⌜ r ≡ answerOf (andThen (channelOf byte) (λ x. gives (x .0))) ⌝ }
+{
+    match wire::Channel::new(byte) {
+        wire::ChannelAnswer::Ok(channel) => boundary::done(channel.index() as u64),
+        wire::ChannelAnswer::Err(e) => boundary::refused(e),
+    }
+}
+
+#[no_mangle]
+pub extern "C" fn dm_command(byte: u8) -> Answer
+    ensures { λ r. ⌜ r ≡ answerOf (andThen (commandOf byte) (λ x. gives (codeOf x))) ⌝ }
+{
+    match command::Command::from_byte(byte) {
+        command::CommandAnswer::Ok(command) => boundary::done(command.to_byte() as u64),
+        command::CommandAnswer::Err(e) => boundary::refused(e),
+    }
+}
+
+#[no_mangle]
+pub extern "C" fn dm_interface(byte: u8) -> Answer
+    ensures { λ r. ⌜ r ≡ answerOf (andThen (interfaceOf byte) (λ x. gives (interfaceByte x))) ⌝ }
+{
+    match message::Interface::from_byte(byte) {
+        message::InterfaceAnswer::Ok(interface) => boundary::done(interface.to_byte() as u64),
+        message::InterfaceAnswer::Err(e) => boundary::refused(e),
+    }
+}

@@ -1,0 +1,48 @@
+-- The decoder's calls at the boundary: its state as bytes, and what a call answers in plain numbers.
+use mathlib.Core.Path.{_≡_}
+use mathlib.Core.List.{List, []}
+use Prim.Native.Nat.{ℕ}
+use lib.Dec.{eqb}
+use lib.ListN.{length}
+use Rattle.refusal.specs.Outcome.{Outcome, gives, refused, unless}
+use Rattle.decoder.specs.declared.Decoder.{Decoder}
+use Rattle.decoder.specs.State.{reset}
+use Rattle.decoder.specs.Call.{Walked, call, storeOf}
+use Rattle.boundary.specs.Answer.{flag}
+use Rattle.decoder_bytes.specs.declared.reports.FedAnswer.{FedAnswer}
+use Rattle.decoder_bytes.specs.State.{isState, stateOf, encoded}
+use Rattle.decoder_bytes.specs.Reports.{numbersOf}
+
+-- a state that is written to the lent bytes; 20 where they are not fourteen
+abbrev pub stateWrite : Decoder → List ℕ → Outcome (List ℕ)
+stateWrite d bytes = unless (eqb (length bytes) 14) 20 [] (gives (encoded d))
+
+-- a reset takes every content of fourteen bytes
+abbrev pub resetWrite : List ℕ → Outcome (List ℕ)
+resetWrite bytes = stateWrite (reset (stateOf bytes)) bytes
+
+-- is a frame open? 20 for bytes that are no state
+abbrev pub openOf : List ℕ → Outcome ℕ
+openOf bytes = unless (isState bytes) 20 [] (gives (flag (stateOf bytes .in_sysex)))
+
+-- a call on the state that the bytes say; 20 for bytes that are no state
+abbrev pub feedCall : List ℕ → List ℕ → List ℕ → Outcome Walked
+feedCall state store bytes = unless (isState state) 20 [] (call (stateOf state) store bytes)
+
+abbrev pub refusedFeed : ℕ → FedAnswer
+refusedFeed n = record { number = n; used = 0; interrupted = 0; kind = 0; status = 0; first = 0; second = 0 }
+
+abbrev pub fedAnswer : Outcome Walked → FedAnswer
+fedAnswer (gives w) = numbersOf (w .fed .used) (w .fed .interrupted) (w .fed .report)
+fedAnswer (refused n values) = refusedFeed n
+
+-- the state's bytes afterwards; a refused call leaves them as they were
+abbrev pub stateAfter : Outcome Walked → List ℕ → List ℕ
+stateAfter (gives w) state = encoded (w .fed .state)
+stateAfter (refused n values) state = state
+
+-- the whole of what a call does: its answer, the state's bytes and the store's
+pub record StreamFed (o : Outcome Walked) (answer : FedAnswer) (state stateLater store storeLater : List ℕ) : Type 0 where
+  pub answers : answer ≡ fedAnswer o
+  pub keeps : stateLater ≡ stateAfter o state
+  pub leaves : storeLater ≡ storeOf o store
