@@ -1,12 +1,14 @@
 -- An entry point answers what the call below it answered, in plain numbers.
-use mathlib.Core.Path.{_≡_, ap, _∙_}
+use mathlib.Core.Path.{_≡_, refl, ap, sym, _∙_}
+use mathlib.Core.Bool.{Bool, true, false}
 use mathlib.Core.List.{List}
 use Prim.Native.Nat.{ℕ}
+use Rattle.laws.proofs.Tests.{true-is-not-false}
 use Rattle.refusal.specs.declared.Refusal.{Refusal}
 use Rattle.refusal.specs.declared.Count.{Count}
 use Rattle.refusal.specs.Outcome.{Outcome, gives, refusal, andThen, counted, Writes}
 use Rattle.boundary.specs.declared.Answer.{Answer}
-use Rattle.boundary.specs.Answer.{answerOf, Sends}
+use Rattle.boundary.specs.Answer.{answerOf, noRecord, Sends, SendsIf}
 
 module _ {A : Type 0} (o : Outcome A) (inside : A → ℕ) where
   -- the number inside what was made
@@ -22,3 +24,13 @@ module _ {A : Type 0} (o : Outcome A) (inside : A → ℕ) where
 pub writer-told : (o : Outcome (List ℕ)) (c : Count) (r : Answer) (before afterwards : List ℕ) → Writes o c before afterwards
     → r ≡ answerOf (counted c) → Sends o r before afterwards
 writer-told o c r before afterwards w a = record { answers = a ∙ ap answerOf (w .answers); leaves = w .leaves }
+
+-- its flags name a record, or none does
+pub named-told : (t : Bool) (o : Outcome (List ℕ)) (r : Answer) (before afterwards : List ℕ) → t ≡ true → Sends o r before afterwards
+    → SendsIf t o r before afterwards
+named-told true o r before afterwards h s = s
+named-told false o r before afterwards h s = absurd (true-is-not-false (sym h))
+
+pub unnamed-told : (t : Bool) (o : Outcome (List ℕ)) (r : Answer) (before : List ℕ) → t ≡ false → r ≡ noRecord → SendsIf t o r before before
+unnamed-told true o r before h s = absurd (true-is-not-false h)
+unnamed-told false o r before h s = record { answers = s; leaves = refl }

@@ -26,3 +26,13 @@ pub record Sends (o : Outcome (List ℕ)) (answer : Answer) (before afterwards :
 abbrev pub flag : Bool → ℕ
 flag true = 1
 flag false = 0
+
+-- no record names what was asked: the answer says so, and every byte stays
+pub record Unnamed (answer : Answer) (before afterwards : List ℕ) : Type 0 where
+  pub answers : answer ≡ noRecord
+  pub leaves : afterwards ≡ before
+
+-- a writer whose flags have to name a record
+abbrev pub SendsIf : Bool → Outcome (List ℕ) → Answer → List ℕ → List ℕ → Type 0
+SendsIf true o answer before afterwards = Sends o answer before afterwards
+SendsIf false o answer before afterwards = Unnamed answer before afterwards

@@ -2,6 +2,8 @@
 ghost use mathlib.Core.Path.{_≡_};
 ghost use Rattle.refusal.specs.Outcome.{gives, counted, refusal};
 ghost use Rattle.boundary.specs.Answer.{answerOf, noRecord, flag};
+ghost use Rattle.boundary.specs.Device.{deviceFrom, everyoneOf, unitOf};
+use ids::DeviceId;
 use refusal::Count;
 use refusal::Refusal;
 
@@ -113,4 +115,34 @@ pub fn flag_of(b: bool) -> u8
     ensures { λ r. ⌜ r ≡ flag b ⌝ }
 {
     if b { 1 } else { 0 }
+}
+
+// A device from its two numbers: everyone, 0 or 1, and the unit.
+pub fn device_of(everyone: u8, unit: u8) -> DeviceId
+    ensures { λ r. ⌜ r ≡ deviceFrom everyone unit ⌝ }
+{
+    if everyone == 0 {
+        return DeviceId::Unit(unit);
+    }
+    DeviceId::Broadcast
+}
+
+// Whether a device is everyone, as a number.
+pub fn everyone_of(device: DeviceId) -> u64
+    ensures { λ r. ⌜ r ≡ everyoneOf device ⌝ }
+{
+    match device {
+        DeviceId::Unit(_) => 0,
+        DeviceId::Broadcast => 1,
+    }
+}
+
+// The unit of a device; 0 for everyone.
+pub fn unit_of(device: DeviceId) -> u64
+    ensures { λ r. ⌜ r ≡ unitOf device ⌝ }
+{
+    match device {
+        DeviceId::Unit(unit) => unit as u64,
+        DeviceId::Broadcast => 0,
+    }
 }

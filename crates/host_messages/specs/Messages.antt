@@ -19,7 +19,7 @@ use Rattle.wire.specs.Channel.{channelWrite}
 use Rattle.wire.specs.Common.{commonWrite}
 use Rattle.wire.specs.Realtime.{realtimeByte, realtimeWrite}
 use Rattle.boundary.specs.declared.Answer.{Answer}
-use Rattle.boundary.specs.Answer.{answerOf, noRecord, Sends}
+use Rattle.boundary.specs.Answer.{answerOf, noRecord, Sends, Unnamed}
 
 abbrev pub lengthAnswer : MaybeLen → Answer
 lengthAnswer (l.Some n) = answerOf (gives n)
@@ -40,11 +40,6 @@ channelKind nibble a b =
     (pick (eqb nibble 0xC0) (c.Some (m.ProgramChange (a % 256)))
     (pick (eqb nibble 0xD0) (c.Some (m.ChannelPressure (a % 256)))
     (pick (eqb nibble 0xE0) (c.Some (m.PitchBend a)) c.None))))))
-
--- no record names the kind: the answer says so, and every byte stays
-pub record Unnamed (answer : Answer) (before afterwards : List ℕ) : Type 0 where
-  pub answers : answer ≡ noRecord
-  pub leaves : afterwards ≡ before
 
 abbrev pub ChannelSent : MaybeChannelMessage → ℕ → Answer → List ℕ → List ℕ → Type 0
 ChannelSent (c.Some x) channel answer out later = Sends (channelWrite (record { 0 = channel }) x (length out)) answer out later

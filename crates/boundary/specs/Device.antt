@@ -1,0 +1,18 @@
+-- A device at the boundary: everyone (0 or 1) and the unit, since a hand-made unit 7F is not everyone.
+use Prim.Native.Nat.{ℕ}
+use lib.Dec.{eqb}
+use Rattle.laws.specs.Choice.{pick}
+use Rattle.ids.specs.declared.DeviceId.{DeviceId}
+use Rattle.ids.specs.declared.DeviceId.the-variants as d
+
+abbrev pub deviceFrom : ℕ → ℕ → DeviceId
+deviceFrom everyone unit = pick (eqb everyone 0) (d.Unit unit) d.Broadcast
+
+abbrev pub everyoneOf : DeviceId → ℕ
+everyoneOf (d.Unit n) = 0
+everyoneOf d.Broadcast = 1
+
+-- 0 for everyone
+abbrev pub unitOf : DeviceId → ℕ
+unitOf (d.Unit n) = n
+unitOf d.Broadcast = 0
