@@ -1,0 +1,86 @@
+-- Frames at the boundary: every field a plain number, the run by its place in the caller's bytes.
+use mathlib.Core.Bool.{Bool, false}
+use mathlib.Core.List.{List}
+use Prim.Native.Nat.{ℕ, _+_}
+use lib.Dec.{eqb}
+use lib.ListN.{length, getD}
+use Rattle.laws.specs.Choice.{pick}
+use Rattle.refusal.specs.Outcome.{Outcome, gives, refused, andThen}
+use Rattle.ids.specs.declared.DeviceId.{DeviceId}
+use Rattle.command.specs.declared.Command.{Command}
+use Rattle.command.specs.Command.{codeOf, commandOf}
+use Rattle.message.specs.declared.Fields.{Fields}
+use Rattle.message.specs.Head.{headFrom}
+use Rattle.message.specs.Wire.{carriesRun, fieldList}
+use Rattle.frame_reader.specs.declared.Record.{Record}
+use Rattle.frame_reader.specs.Reader.{runIn}
+use Rattle.frame_writer.specs.Writer.{headLength}
+use Rattle.boundary.specs.Answer.{flag}
+use Rattle.boundary.specs.Device.{everyoneOf, unitOf}
+use Rattle.host_frames.specs.declared.ReadAnswer.{ReadAnswer}
+
+-- "a record of plain fields beside the caller's packed run": the record and the run's place
+abbrev pub numbersOf : DeviceId → Command → Fields → ℕ → ℕ → ReadAnswer
+numbersOf d k f start len =
+    record {
+      number = 0;
+      detail0 = 0;
+      detail1 = 0;
+      detail2 = 0;
+      detail3 = 0;
+      everyone = everyoneOf d;
+      unit = unitOf d;
+      command = codeOf k;
+      free = f .free;
+      version = f .version;
+      bank = f .bank;
+      program = f .program;
+      last = f .last;
+      pattern = f .pattern;
+      «has_pattern» = flag (f .«has_pattern»);
+      interface = f .interface;
+      rx = f .rx;
+      tx = f .tx;
+      «run_start» = start;
+      «run_len» = len;
+    }
+
+-- behind the header and the prefix; 0 where the command has no run
+abbrev pub runStart : Record → ℕ
+runStart r = pick (carriesRun (r .command)) (7 + length (fieldList (r .command) (r .fields .«has_pattern»))) 0
+
+-- read: the numbers. Refused: document 01's number and details, and 0 behind them
+abbrev pub readAnswer : Outcome Record → List ℕ → ReadAnswer
+readAnswer (gives r) bytes = numbersOf (r .device) (r .command) (r .fields) (runStart r) (length (runIn r bytes))
+readAnswer (refused n values) bytes =
+    record {
+      number = n;
+      detail0 = getD values 0 0;
+      detail1 = getD values 1 0;
+      detail2 = getD values 2 0;
+      detail3 = getD values 3 0;
+      everyone = 0;
+      unit = 0;
+      command = 0;
+      free = 0;
+      version = 0;
+      bank = 0;
+      program = 0;
+      last = 0;
+      pattern = 0;
+      «has_pattern» = 0;
+      interface = 0;
+      rx = 0;
+      tx = 0;
+      «run_start» = 0;
+      «run_len» = 0;
+    }
+
+-- plain numbers as fields
+abbrev pub fieldsFrom : ℕ → ℕ → ℕ → ℕ → ℕ → ℕ → ℕ → ℕ → ℕ → ℕ → Fields
+fieldsFrom free version bank program last pattern has interface rx tx =
+    record { free = free; version = version; bank = bank; program = program; last = last; pattern = pattern; «has_pattern» = eqb has 1; interface = interface; rx = rx; tx = tx }
+
+-- the length of a command's message beside a run: no field but a pattern's flag plays a part. 6, then 22
+abbrev pub lengthAsked : ℕ → ℕ → ℕ → Outcome ℕ
+lengthAsked code has run = andThen (commandOf code) (λ k. headLength (headFrom k (fieldsFrom 0 0 0 0 0 0 has 0 0 0)) run)

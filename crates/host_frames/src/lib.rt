@@ -1,0 +1,204 @@
+// The C entry points of frames.
+ghost use mathlib.Core.Path.{_≡_};
+ghost use mathlib.Core.Bool.{_&&_};
+ghost use mathlib.Core.List.{[]};
+ghost use lib.Dec.{leb};
+ghost use lib.ListN.{length};
+ghost use Rattle.laws.specs.Choice.{pick};
+ghost use Rattle.refusal.specs.Outcome.{refusal};
+ghost use Rattle.boundary.specs.Answer.{answerOf, noRecord, SendsIf};
+ghost use Rattle.boundary.specs.Device.{deviceFrom};
+ghost use Rattle.frame_reader.specs.Reader.{readRecord};
+ghost use Rattle.frame_writer.specs.Writer.{recordWrite};
+ghost use Rattle.host_frames.specs.Frames.{numbersOf, readAnswer, fieldsFrom, lengthAsked};
+use boundary::Answer;
+use command::Command;
+use command::CommandAnswer;
+use frame_reader::RecordAnswer;
+use ids::DeviceId;
+use message::Fields;
+use message::Head;
+use refusal::Refusal;
+
+// What a frame says. number: 0 where it is read, else document 01's number with its details, and 0 behind them. everyone: 1 for device byte 7F, and
+// then unit is 0. What the command lacks is 0. run_start, run_len: where the packed run lies in the caller's bytes; both 0 where the command has none.
+#[repr(C)]
+pub struct ReadAnswer {
+    pub number: u64,
+    pub detail0: u64,
+    pub detail1: u64,
+    pub detail2: u64,
+    pub detail3: u64,
+    pub everyone: u64,
+    pub unit: u64,
+    pub command: u64,
+    pub free: u64,
+    pub version: u64,
+    pub bank: u64,
+    pub program: u64,
+    pub last: u64,
+    pub pattern: u64,
+    pub has_pattern: u64,
+    pub interface: u64,
+    pub rx: u64,
+    pub tx: u64,
+    pub run_start: u64,
+    pub run_len: u64,
+}
+
+// The numbers of a frame that was read.
+fn numbers(
+    device: DeviceId,
+    command: Command,
+    fields: Fields,
+    start: usize,
+    len: usize,
+) -> ReadAnswer
+    ensures { λ r. ⌜ r ≡ numbersOf device command fields start len ⌝ }
+{
+    ReadAnswer {
+        number: 0,
+        detail0: 0,
+        detail1: 0,
+        detail2: 0,
+        detail3: 0,
+        everyone: boundary::everyone_of(device),
+        unit: boundary::unit_of(device),
+        command: command.to_byte() as u64,
+        free: fields.free as u64,
+        version: fields.version as u64,
+        bank: fields.bank as u64,
+        program: fields.program as u64,
+        last: fields.last as u64,
+        pattern: fields.pattern as u64,
+        has_pattern: boundary::flag_of(fields.has_pattern) as u64,
+        interface: fields.interface as u64,
+        rx: fields.rx as u64,
+        tx: fields.tx as u64,
+        run_start: start as u64,
+        run_len: len as u64,
+    }
+}
+
+// The numbers of a frame that was refused.
+fn not_read(e: Refusal) -> ReadAnswer
+    ensures { λ r. ⌜ r ≡ readAnswer (refusal e) [] ⌝ }
+{
+    let why = boundary::refused(e);
+    ReadAnswer {
+        number: why.number,
+        detail0: why.detail0,
+        detail1: why.detail1,
+        detail2: why.detail2,
+        detail3: why.detail3,
+        everyone: 0,
+        unit: 0,
+        command: 0,
+        free: 0,
+        version: 0,
+        bank: 0,
+        program: 0,
+        last: 0,
+        pattern: 0,
+        has_pattern: 0,
+        interface: 0,
+        rx: 0,
+        tx: 0,
+        run_start: 0,
+        run_len: 0,
+    }
+}
+
+// Reads a frame, F0 to F7. Refuses 1, 2, 3, 4, 5, 6, then as its payload: 7, 8, 13, 9, 10, 11, 12.
+#[no_mangle]
+pub extern "C" fn dm_frame_read(bytes: &[u8]) -> ReadAnswer
+    ensures { λ r. ⌜ r ≡ readAnswer (readRecord (now (bytes .entry))) (now (bytes .entry)) ⌝ }
+{
+    match frame_reader::read_record(bytes) {
+        RecordAnswer::Err(e) => not_read(e),
+        RecordAnswer::Ok(record) => {
+            let device = record.device;
+            let command = record.command;
+            let fields = record.fields;
+            if !message::payload::carries_run(command) {
+                return numbers(device, command, fields, 0, 0);
+            }
+            let start = 7 + message::payload::prefix_of(command, fields).len;
+            let end = bytes.len() - 1;
+            numbers(device, command, fields, start, end - start)
+        }
+    }
+}
+
+// How many bytes a message of this command takes beside a run of so many; has_pattern says whether a pattern dump names its pattern. It looks
+// at no other field. NO_RECORD for has_pattern above 1; then refuses 6, 22.
+#[no_mangle]
+pub extern "C" fn dm_frame_len(command: u8, has_pattern: u8, run_len: usize) -> Answer
+    ensures { λ r. ⌜ r ≡ pick (leb «has_pattern» 1) (answerOf (lengthAsked command «has_pattern» «run_len»)) noRecord ⌝ }
+{
+    if 1 < has_pattern {
+        return boundary::no_record();
+    }
+    match Command::from_byte(command) {
+        CommandAnswer::Err(e) => boundary::refused(e),
+        CommandAnswer::Ok(known) => {
+            let blank = Fields {
+                free: 0,
+                version: 0,
+                bank: 0,
+                program: 0,
+                last: 0,
+                pattern: 0,
+                has_pattern: has_pattern == 1,
+                interface: 0,
+                rx: 0,
+                tx: 0,
+            };
+            boundary::count(frame_writer::encoded_len(Head::tested(known, blank), run_len))
+        }
+    }
+}
+
+// Writes a frame. NO_RECORD for everyone or has_pattern above 1; then refuses 5, 6, the fields that the command has in wire order (8, 12, 9, 10, 11),
+// 22, 14, 2. It looks at no run length.
+#[no_mangle]
+pub extern "C" fn dm_frame_write(
+    everyone: u8,
+    unit: u8,
+    command: u8,
+    free: u8,
+    version: u8,
+    bank: u8,
+    program: u8,
+    last: u8,
+    pattern: u8,
+    has_pattern: u8,
+    interface: u8,
+    rx: u8,
+    tx: u8,
+    run: &[u8],
+    out: &mut [u8],
+) -> Answer
+    ensures { λ r. ⌜ SendsIf (leb everyone 1 && leb «has_pattern» 1) (recordWrite (deviceFrom everyone unit) command (fieldsFrom free version bank program last pattern «has_pattern» interface rx tx) (now (run .entry)) (length (now (out .entry)))) r (now (out .entry)) (now (out .exit)) ⌝ }
+{
+    if 1 < everyone {
+        return boundary::no_record();
+    }
+    if 1 < has_pattern {
+        return boundary::no_record();
+    }
+    let fields = Fields {
+        free,
+        version,
+        bank,
+        program,
+        last,
+        pattern,
+        has_pattern: has_pattern == 1,
+        interface,
+        rx,
+        tx,
+    };
+    let device = boundary::device_of(everyone, unit);
+    boundary::count(frame_writer::write_record(device, command, fields, run, out))
+}
