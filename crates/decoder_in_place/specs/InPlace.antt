@@ -1,0 +1,36 @@
+-- One call that changes the decoder state in place, over the definition of the call by value.
+use mathlib.Core.Path.{_≡_}
+use mathlib.Core.List.{List}
+use Prim.Native.Nat.{ℕ}
+use Rattle.refusal.specs.Outcome.{Outcome, gives, refused, refusal}
+use Rattle.decoder.specs.declared.Decoder.{Decoder}
+use Rattle.decoder.specs.declared.Fed.{Fed}
+use Rattle.decoder.specs.Call.{Walked, answerOf, storeOf}
+use Rattle.decoder_in_place.specs.declared.Taken.{Taken}
+use Rattle.decoder_in_place.specs.declared.TakeAnswer.{TakeAnswer}
+use Rattle.decoder_in_place.specs.declared.TakeAnswer.the-variants as a
+use Rattle.decoder_in_place.specs.declared.Next.{Next}
+
+-- what is answered: all but the state, which stands behind the reference
+abbrev pub takenOf : Outcome Walked → Outcome Taken
+takenOf (gives w) = gives (record { used = w .fed .used; interrupted = w .fed .interrupted; report = w .fed .report })
+takenOf (refused n values) = refused n values
+
+-- the state afterwards; a refused call leaves it as it was
+abbrev pub stateOf : Outcome Walked → Decoder → Decoder
+stateOf (gives w) d = w .fed .state
+stateOf (refused n values) d = d
+
+abbrev pub taken : TakeAnswer → Outcome Taken
+taken (a.Ok t) = gives t
+taken (a.Err e) = refusal e
+
+-- the whole of what a call in place does: its answer, the state behind the reference, and every byte of the lent store
+pub record FeedsInPlace (o : Outcome Walked) (answer : TakeAnswer) (state next : Decoder) (before afterwards : List ℕ) : Type 0 where
+  pub answers : taken answer ≡ takenOf o
+  pub keeps : next ≡ stateOf o state
+  pub leaves : afterwards ≡ storeOf o before
+
+-- the same with the state beside the answer
+abbrev pub Moves : Outcome Walked → Next → Decoder → List ℕ → List ℕ → Type 0
+Moves o m state before afterwards = FeedsInPlace o (m .answer) state (m .state) before afterwards
