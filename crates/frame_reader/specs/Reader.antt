@@ -1,10 +1,12 @@
 -- The frame reader of document 01, test by test: "framing (1); a body byte 80 or above (2, the first such); under eight bytes (3); maker
 -- and model (4); device (5); command (6); then payload."
+use mathlib.Core.Path.{_≡_}
 use mathlib.Core.Bool.{Bool, true, false, _&&_, _||_, not}
 use mathlib.Core.List.{List, [], _∷_}
 use Prim.Native.Nat.{ℕ, _+_, _-_, _%_}
 use lib.Dec.{ltb, leb, eqb}
 use lib.ListN.{length, getD, take, drop}
+use denote.Ref.{RefT, now}
 use Rattle.laws.specs.Choice.{pick}
 use Rattle.refusal.specs.Outcome.{Outcome, gives, refused, refusal, unless, andThen}
 use Rattle.ids.specs.Device.{deviceOf}
@@ -123,3 +125,19 @@ runIf (refused n vs) bytes = []
 -- empty for a frame that is refused
 abbrev pub runOf : List ℕ → List ℕ
 runOf bytes = runIf (readRecord bytes) bytes
+
+-- where the run begins: behind the seven bytes of the header and the prefix; 0 where there is no run
+abbrev pub placeIn : Record → ℕ
+placeIn r = pick (carriesRun (r .command)) (7 + length (fieldList (r .command) (r .fields .«has_pattern»))) 0
+
+abbrev pub placeIf : Outcome Record → ℕ
+placeIf (gives r) = placeIn r
+placeIf (refused n vs) = 0
+
+abbrev pub runPlace : List ℕ → ℕ
+runPlace bytes = placeIf (readRecord bytes)
+
+-- the run is no copy: it is these bytes, so many places behind the first of the caller's
+pub record RunLent (bytes run : RefT (List ℕ)) : Type 0 where
+  pub lies : run .ptr ≡ (bytes .ptr .0, runPlace (now bytes) + bytes .ptr .1)
+  pub reads : now run ≡ runOf (now bytes)

@@ -7,7 +7,7 @@ ghost use lib.ListN.{length, getD};
 ghost use Rattle.refusal.specs.Outcome.{gives};
 ghost use Rattle.message.specs.Wire.{carriesRun, fieldsAt, fieldsTold};
 ghost use Rattle.message.specs.Head.{frameTold};
-ghost use Rattle.frame_reader.specs.Reader.{accepted, numberedBy, early, prefixLength, readShort, readDump, readRun, versionIn, readPayload, readHeader, readRecord, recordTold, parsed, runOf};
+ghost use Rattle.frame_reader.specs.Reader.{accepted, numberedBy, early, prefixLength, readShort, readDump, readRun, versionIn, readPayload, readHeader, readRecord, recordTold, parsed, RunLent};
 use command::Command;
 use command::CommandAnswer;
 use ids::DeviceAnswer;
@@ -241,7 +241,7 @@ pub fn parse(bytes: &[u8]) -> FrameAnswer
 
 // The frame's packed run, where it lies; empty for a frame that is refused or has none.
 pub fn run_of(bytes: &[u8]) -> &[u8]
-    ensures { λ r. ⌜ now r ≡ runOf (now (bytes .entry)) ⌝ }
+    ensures { λ r. ⌜ RunLent (bytes .entry) r ⌝ }
 {
     match read_record(bytes) {
         RecordAnswer::Err(_) => &bytes[0..0],

@@ -46,7 +46,10 @@ part-result-end-2 c = search needs
 returns : tie.Need-returns
 returns c = let b = c .before .before .before .before .before .before .before .before .before .args .bytes .now in
     let r = c .before .before .before .before .before .«record» .given in
-    rw (← c .before .before .before .before .before .before .before .read-record .ensures, r .1, sym (c .before .before .carries-run .ensures) ∙ not-true _ (c .before .if1 .taken))
+    record {
+      lies = rw (← c .before .before .before .before .before .before .before .read-record .ensures, r .1, sym (c .before .before .carries-run .ensures) ∙ not-true _ (c .before .if1 .taken));
+      reads = rw (← c .before .before .before .before .before .before .before .read-record .ensures, r .1, sym (c .before .before .carries-run .ensures) ∙ not-true _ (c .before .if1 .taken));
+    }
 
 prefix-of-requires : tie.Need-prefix-of-requires
 prefix-of-requires c κs = search needs
@@ -79,14 +82,21 @@ part-result-end-3 : tie.Need-part-result-end-3
 part-result-end-3 c = search needs
 
 returns-2 : tie.Need-returns-2
-returns-2 c = rw (← c .before .before .before .read-record .ensures, c .before .enum-told .given .1)
+returns-2 c =
+    record {
+      lies = rw (← c .before .before .before .read-record .ensures, c .before .enum-told .given .1);
+      reads = rw (← c .before .before .before .read-record .ensures, c .before .enum-told .given .1);
+    }
 
 returns-3 : tie.Need-returns-3
 returns-3 c = let b = c .before .before .before .before .before .before .before .before .before .before .before .args .bytes .now in
     let r = c .before .before .before .before .before .before .before .«record» .given in
     let p = c .before .before .prefix-of in
     let n = p .ensures .long ∙ length-wire true (fieldList (r .0 .0 .command) (r .0 .0 .fields .«has_pattern»)) (r .0 .0 .fields) in
-    rw (run-part b (p .result .len), ← c .before .before .before .before .before .before .before .before .before .read-record .ensures, r .1, sym (c .before .before .before .before .carries-run .ensures) ∙ not-false _ (c .before .before .before .if1 .left), n)
+    record {
+      lies = rw (← c .before .before .before .before .before .before .before .before .before .read-record .ensures, r .1, sym (c .before .before .before .before .carries-run .ensures) ∙ not-false _ (c .before .before .before .if1 .left), n);
+      reads = rw (run-part b (p .result .len), ← c .before .before .before .before .before .before .before .before .before .read-record .ensures, r .1, sym (c .before .before .before .before .carries-run .ensures) ∙ not-false _ (c .before .before .before .if1 .left), n);
+    }
 
 pub run-of-spec : {M : Type 1} → statement M
 run-of-spec =
