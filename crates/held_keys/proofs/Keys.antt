@@ -98,7 +98,7 @@ key-small (m.ChannelPressure a) = omega arith
 key-small (m.PitchBend a) = omega arith
 
 -- no key is held where every word is 0
-zero-word : (k : ℕ) → bit 0 k ≡ false
+pub zero-word : (k : ℕ) → bit 0 k ≡ false
 zero-word k = rw (zero-div (2 ^ k))
 
 none-in-words : (n at k : ℕ) → bit (getD (replicate n 0) at 0) k ≡ false

@@ -1,33 +1,61 @@
 -- Every record can come from calls from fresh, so no record is unsound and 20 never arises: a note on for each held key, one after
--- another, holds just these keys.
-use mathlib.Core.Path.{_≡_, refl, sym, _∙_, ap, ap₂}
+-- another, holds just these keys, and a record is known by its held keys. Nothing is assumed but the record's shape, which every array of
+-- the record's type has. `calls-lead-here` says the same of the function `applied`: of any records that meet its contract call by call.
+use mathlib.Core.Path.{_≡_, refl, sym, subst, _∙_, ap, ap₂}
 use mathlib.Core.Bool.{Bool, true, false, _&&_}
 use mathlib.Core.List.{List, [], _∷_}
 use Prim.Native.Nat.{ℕ, zero, suc, _+_, _*_, _/_, _%_, _≤_, _<_}
 use native.Mathlib.Omega.{arith}
 use lib.Dec.{ltb, eqb}
-use lib.ListN.{replicate}
+use lib.ListN.{length, getD-replicate}
 use borrow.Author.Tests.{lt-ltb, le-ltb, ltb-true, ltb-false, eq-eqb, ne-eqb, eqb-true, eqb-false}
 use Rattle.laws.specs.Choice.{pick}
 use Rattle.laws.proofs.Tests.{split}
 use Rattle.wire.specs.declared.channel_message.ChannelMessage.the-variants as m
 use Rattle.held_keys.specs.HeldKeys.{isHeld, stillHeld, Afterwards}
+use Rattle.held_keys.specs.Record.{Shaped, Call, fresh, afterCalls}
 use Rattle.held_keys.proofs.Keys.{none-held}
+use Rattle.held_keys.proofs.Known.{record-known}
+use Rattle.held_keys.proofs.Made.{made-shaped, after-meets, afterwards-is}
 
--- a channel and a key
-abbrev pub Place : Type 0
-Place = ℕ × ℕ
-
--- the held ones among the first n places, counted channel by channel and key by key, latest first
-abbrev pub presses : (ℕ → ℕ → Bool) → ℕ → List Place
+-- a note on for each held key among the first n places, counted channel by channel and key by key, latest first; 64 is one velocity of many
+abbrev pub presses : (ℕ → ℕ → Bool) → ℕ → List Call
 presses held zero = []
-presses held (suc j) = pick (held (j / 128) (j % 128)) ((j / 128, j % 128) ∷ presses held j) (presses held j)
+presses held (suc j) = pick (held (j / 128) (j % 128)) ((j / 128, m.NoteOn (j % 128) 64) ∷ presses held j) (presses held j)
 
--- a record that notes on at these places, with any velocities, lead to from the fresh record, each call meeting its contract
-abbrev pub Reached : List Place → List (List ℕ) → Type 0
-Reached [] keys = keys ≡ replicate 16 (0 ∷ 0 ∷ [])
-Reached (p ∷ ps) keys =
-    (before : List (List ℕ)) × (velocity : ℕ) × (Reached ps before × Afterwards before (p .0) (m.NoteOn (p .1) velocity) keys)
+-- a record that calls lead to from the fresh record, each call's record of the record's shape and as the contract of `applied` says
+abbrev pub Reached : List Call → List (List ℕ) → Type 0
+Reached [] keys = keys ≡ fresh
+Reached (call ∷ earlier) keys =
+    (before : List (List ℕ)) × (Reached earlier before) × Shaped keys × Afterwards before (call .0) (call .1) keys
+
+fresh-shaped : Shaped fresh
+fresh-shaped = record {
+  channels = refl;
+  words = λ c h. ap (λ (row : List ℕ). length row) (getD-replicate 16 c (0 ∷ 0 ∷ []) [] h);
+  bits = λ c w hc hw. rw (getD-replicate {A = List ℕ} 16 c (0 ∷ 0 ∷ []) [] hc, getD-replicate {A = ℕ} 2 w 0 0 hw) (omega arith);
+}
+
+pub calls-shaped : (calls : List Call) → Shaped (afterCalls calls)
+unfolding afterCalls
+calls-shaped [] = fresh-shaped
+calls-shaped (call ∷ earlier) = made-shaped (stillHeld (afterCalls earlier) (call .0) (call .1))
+
+-- there are such records for any calls
+pub calls-reach : (calls : List Call) → Reached calls (afterCalls calls)
+unfolding afterCalls
+calls-reach [] = refl
+calls-reach (call ∷ earlier) =
+    (afterCalls earlier, calls-reach earlier, calls-shaped (call ∷ earlier), after-meets (afterCalls earlier) (calls-shaped earlier) (call .0) (call .1))
+
+-- and they are the only ones
+pub reached-is : (calls : List Call) (keys : List (List ℕ)) → Reached calls keys → keys ≡ afterCalls calls
+unfolding afterCalls
+reached-is [] keys r = r
+reached-is (call ∷ earlier) keys r =
+    let same : r .0 ≡ afterCalls earlier = reached-is earlier (r .0) (r .1) in
+    afterwards-is (afterCalls earlier) (calls-shaped earlier) (call .0) (call .1) keys (r .2)
+    (subst (λ (before : List (List ℕ)). Afterwards before (call .0) (call .1) keys) same (r .3))
 
 -- another place is as far below the next number as below this one
 below-next : (x j : ℕ) → (x ≡ j → ⊥) → ltb x j ≡ ltb x (suc j)
@@ -60,15 +88,15 @@ module _ (held : ℕ → ℕ → Bool) (j : ℕ) (small : suc j ≤ 2048) (c k :
 
   one-more : ((ks : List (List ℕ)) → Reached (presses held j) ks → isHeld ks c k ≡ (ltb (c * 128 + k) j && held c k))
       → (t : Bool) → held (j / 128) (j % 128) ≡ t → (keys : List (List ℕ))
-      → Reached (pick t ((j / 128, j % 128) ∷ presses held j) (presses held j)) keys → isHeld keys c k ≡ (ltb (c * 128 + k) (suc j) && held c k)
+      → Reached (pick t ((j / 128, m.NoteOn (j % 128) 64) ∷ presses held j) (presses held j)) keys → isHeld keys c k ≡ (ltb (c * 128 + k) (suc j) && held c k)
   one-more before true e keys r =
       split (eqb (c * 128 + k) j)
       (λ (t : eqb (c * 128 + k) j ≡ true).
       let same : c * 128 + k ≡ j = eqb-true (c * 128 + k) j t in
-      r .2 .1 .member c k ∙ pressed-here (r .0) (r .1) same ∙ sym (ap₂ (λ (x y : Bool). x && y) (lt-ltb (c * 128 + k) (suc j) (omega arith)) (here same ∙ e)))
+      r .3 .member c k ∙ pressed-here (r .0) 64 same ∙ sym (ap₂ (λ (x y : Bool). x && y) (lt-ltb (c * 128 + k) (suc j) (omega arith)) (here same ∙ e)))
       (λ (f : eqb (c * 128 + k) j ≡ false).
       let other : c * 128 + k ≡ j → ⊥ = eqb-false (c * 128 + k) j f in
-      r .2 .1 .member c k ∙ pressed-elsewhere (r .0) (r .1) other ∙ before (r .0) (r .2 .0)
+      r .3 .member c k ∙ pressed-elsewhere (r .0) 64 other ∙ before (r .0) (r .1)
       ∙ ap (λ (x : Bool). x && held c k) (below-next (c * 128 + k) j other))
   one-more before false e keys r =
       split (eqb (c * 128 + k) j)
@@ -86,9 +114,14 @@ first-places held zero keys h r c k small =
 first-places held (suc j) keys h r c k small =
     one-more held j h c k small (λ ks q. first-places held j ks (omega arith) q c k small) (held (j / 128) (j % 128)) refl keys r
 
--- all of them: just the keys that are held
-pub every-record-is-reached : (keys last : List (List ℕ)) → Reached (presses (isHeld keys) 2048) last → (c k : ℕ) → c < 16 → k < 128
-    → isHeld last c k ≡ isHeld keys c k
-every-record-is-reached keys last r c k channel key =
-    first-places (isHeld keys) 2048 last (omega arith) r c k key
-    ∙ ap (λ (t : Bool). t && isHeld keys c k) (lt-ltb (c * 128 + k) 2048 (omega arith))
+-- all of them: just the keys that are held, so the very record
+pub every-record-is-reached : (keys : List (List ℕ)) → Shaped keys → afterCalls (presses (isHeld keys) 2048) ≡ keys
+every-record-is-reached keys p =
+    record-known (afterCalls (presses (isHeld keys) 2048)) keys (calls-shaped (presses (isHeld keys) 2048)) p
+    (λ c k hc hk.
+    first-places (isHeld keys) 2048 (afterCalls (presses (isHeld keys) 2048)) (omega arith) (calls-reach (presses (isHeld keys) 2048)) c k hk
+    ∙ ap (λ (t : Bool). t && isHeld keys c k) (lt-ltb (c * 128 + k) 2048 (omega arith)))
+
+-- calls that meet the contract, made for a record's held keys from fresh, lead to that record
+pub calls-lead-here : (keys last : List (List ℕ)) → Shaped keys → Reached (presses (isHeld keys) 2048) last → last ≡ keys
+calls-lead-here keys last p r = reached-is (presses (isHeld keys) 2048) last r ∙ every-record-is-reached keys p

@@ -1,1 +1,2 @@
 pub mod HeldKeys
+pub mod Record
