@@ -2,3 +2,5 @@
 
 pub mod bench;
 pub mod ffi;
+mod records;
+mod stream;

@@ -1,8 +1,6 @@
 //! Each of the bench's words over the original. What the original has no call for is said to be so, and nothing is made up.
 
-use std::fmt::Write as _;
-
-use words::{hex, Answer, Bench, Device, Head, Request};
+use words::{hex, Answer, Bench, Device, Head, Report, Request};
 
 use crate::error::{Error, Result};
 use crate::ids::{Bank, DeviceId, PatternNumber, ProgramNumber, ProtocolVersion};
@@ -35,8 +33,8 @@ impl<const N: usize> Bench for Origin<N> {
                 Ok(channel) => count(message(*nibble, *a, *b).encode_into(channel, out)),
                 Err(_) => Answer::Skip,
             },
-            Request::Feed(bytes) => feed::<N>(bytes),
-            Request::Chunks { sizes, bytes } => chunks::<N>(sizes, bytes),
+            Request::Feed(bytes) => words::decoded(self, None, bytes),
+            Request::Chunks { sizes, bytes } => words::decoded(self, Some(sizes), bytes),
             Request::Frame(bytes) => frame(bytes),
             Request::FrameWrite { head, .. } => with_frame(head, |frame| count(frame.encode_into(out))),
             Request::ReadBack(head) => with_frame(head, read_back),
@@ -51,6 +49,14 @@ impl<const N: usize> Bench for Origin<N> {
                 Answer::What("the original has no such call".to_string())
             }
         }
+    }
+
+    fn decode(&mut self, sizes: Option<&[usize]>, bytes: &[u8], report: &mut dyn FnMut(usize, Report<'_>)) -> bool {
+        let mut decoder: Decoder<N> = Decoder::new();
+        words::pieces(sizes.unwrap_or(&[1]), bytes, |place, piece| {
+            decoder.feed(piece, |event| report(place, told(event)));
+        });
+        decoder.in_sysex()
     }
 }
 
@@ -94,63 +100,35 @@ fn message(nibble: u8, a: u16, b: u8) -> ChannelMessage {
     }
 }
 
-fn data(message: ChannelMessage) -> String {
+/// The data of a channel message: a bend is one number.
+fn data(message: ChannelMessage) -> (u16, Option<u8>) {
     match message {
-        ChannelMessage::NoteOff { key, velocity } | ChannelMessage::NoteOn { key, velocity } => format!("{key},{velocity}"),
-        ChannelMessage::PolyKeyPressure { key, pressure } => format!("{key},{pressure}"),
-        ChannelMessage::ControlChange { controller, value } => format!("{controller},{value}"),
-        ChannelMessage::ProgramChange { program } => program.to_string(),
-        ChannelMessage::ChannelPressure { pressure } => pressure.to_string(),
-        ChannelMessage::PitchBend { value } => value.to_string(),
+        ChannelMessage::NoteOff { key, velocity } | ChannelMessage::NoteOn { key, velocity } => (key.into(), Some(velocity)),
+        ChannelMessage::PolyKeyPressure { key, pressure } => (key.into(), Some(pressure)),
+        ChannelMessage::ControlChange { controller, value } => (controller.into(), Some(value)),
+        ChannelMessage::ProgramChange { program } => (program.into(), None),
+        ChannelMessage::ChannelPressure { pressure } => (pressure.into(), None),
+        ChannelMessage::PitchBend { value } => (value, None),
     }
 }
 
-/// A report as the bench writes it.
-fn report(event: Result<Event<'_>>) -> String {
+/// An event as the bench has it.
+fn told(event: Result<Event<'_>>) -> Report<'_> {
     match event {
-        Ok(Event::Channel { channel, message }) => format!("c{:02x},{}", message.status_nibble() | channel.index(), data(message)),
-        Ok(Event::SysEx(frame)) => format!("x{}", hex(frame)),
-        Ok(Event::Common(SystemCommon::TimeCodeQuarterFrame(value))) => format!("mf1,{value}"),
-        Ok(Event::Common(SystemCommon::SongPosition(value))) => format!("mf2,{value}"),
-        Ok(Event::Common(SystemCommon::SongSelect(value))) => format!("mf3,{value}"),
-        Ok(Event::Common(SystemCommon::TuneRequest)) => "mf6".to_string(),
-        Ok(Event::Realtime(message)) => format!("r{:02x}", message.to_status()),
-        Err(error) => {
-            let mut text = String::from("e");
-            if let Some((number, details)) = error.told() {
-                let _ = write!(text, "{number}");
-                for detail in details {
-                    let _ = write!(text, ",{detail}");
-                }
-            }
-            text
+        Ok(Event::Channel { channel, message }) => {
+            let (first, second) = data(message);
+            Report::Channel { status: message.status_nibble() | channel.index(), first, second }
         }
+        Ok(Event::SysEx(frame)) => Report::Frame(frame),
+        Ok(Event::Common(SystemCommon::TimeCodeQuarterFrame(value))) => Report::Common { status: 0xF1, value: Some(value.into()) },
+        Ok(Event::Common(SystemCommon::SongPosition(value))) => Report::Common { status: 0xF2, value: Some(value) },
+        Ok(Event::Common(SystemCommon::SongSelect(value))) => Report::Common { status: 0xF3, value: Some(value.into()) },
+        Ok(Event::Common(SystemCommon::TuneRequest)) => Report::Common { status: 0xF6, value: None },
+        Ok(Event::Realtime(message)) => Report::Realtime(message.to_status()),
+        Err(Error::SysExInterrupted) => Report::Interrupted,
+        Err(Error::SysExTooLong(limit)) => Report::TooLong(limit as u64),
+        Err(error) => Report::Never(error.told().map_or(0, |(number, _)| number.into())),
     }
-}
-
-fn feed<const N: usize>(bytes: &[u8]) -> Answer {
-    let mut decoder: Decoder<N> = Decoder::new();
-    let mut said = Vec::new();
-    for (place, byte) in bytes.iter().enumerate() {
-        decoder.feed(&[*byte], |event| said.push(format!("{place}:{}", report(event))));
-    }
-    said.push(format!("open={}", u8::from(decoder.in_sysex())));
-    Answer::Ok(said.join(" "))
-}
-
-fn chunks<const N: usize>(sizes: &[usize], bytes: &[u8]) -> Answer {
-    let mut decoder: Decoder<N> = Decoder::new();
-    let mut said = Vec::new();
-    let mut rest = bytes;
-    for size in sizes.iter().cycle() {
-        if rest.is_empty() {
-            break;
-        }
-        let (now, later) = rest.split_at((*size).min(rest.len()));
-        decoder.feed(now, |event| said.push(report(event)));
-        rest = later;
-    }
-    Answer::Ok(said.join(" "))
 }
 
 /// The plain fields of a message, in the order of the bench: free ver bank prog last pat has ifc rx tx.

@@ -5,6 +5,8 @@ use std::fmt::Write as _;
 /// The most bytes that one word may stand for: far beyond every length that matters, and short enough to hold.
 const MOST: usize = 1 << 24;
 
+const DIGITS: &[u8; 16] = b"0123456789abcdef";
+
 /// Bytes as answers have them: plain hexadecimal, `-` for none.
 #[must_use]
 pub fn hex(bytes: &[u8]) -> String {
@@ -13,9 +15,34 @@ pub fn hex(bytes: &[u8]) -> String {
     }
     let mut text = String::with_capacity(bytes.len() * 2);
     for byte in bytes {
-        let _ = write!(text, "{byte:02x}");
+        text.push(char::from(DIGITS[usize::from(byte >> 4)]));
+        text.push(char::from(DIGITS[usize::from(byte & 15)]));
     }
     text
+}
+
+/// Bytes as requests may have them: the same byte more than four times is written once, with its count.
+#[must_use]
+pub fn short_hex(bytes: &[u8]) -> String {
+    let mut parts: Vec<String> = Vec::new();
+    let mut plain = Vec::new();
+    for same in bytes.chunk_by(|a, b| a == b) {
+        if same.len() <= 4 {
+            plain.extend_from_slice(same);
+            continue;
+        }
+        if !plain.is_empty() {
+            parts.push(hex(&plain));
+            plain.clear();
+        }
+        let mut part = hex(&same[..1]);
+        let _ = write!(part, "*{}", same.len());
+        parts.push(part);
+    }
+    if !plain.is_empty() || parts.is_empty() {
+        parts.push(hex(&plain));
+    }
+    parts.join(".")
 }
 
 /// Reads bytes as requests have them.
@@ -30,7 +57,7 @@ pub fn parse_bytes(word: &str) -> Result<Vec<u8>, String> {
     let mut bytes = Vec::new();
     for part in word.split('.') {
         let (digits, times) = match part.split_once('*') {
-            Some((digits, times)) => (digits, times.parse::<usize>().map_err(|_| format!("{times} is no count"))?),
+            Some((digits, times)) => (digits, crate::request::number::<usize>(times, "a count")?),
             None => (part, 1),
         };
         let once = plain(digits)?;
@@ -56,6 +83,6 @@ fn digit(c: u8) -> Result<u8, String> {
     match c {
         b'0'..=b'9' => Ok(c - b'0'),
         b'a'..=b'f' => Ok(c - b'a' + 10),
-        _ => Err(format!("{} is no hexadecimal digit in lower case", char::from(c))),
+        _ => Err("bytes are hexadecimal digits in lower case".to_string()),
     }
 }

@@ -3,13 +3,18 @@
 //! A [`Request`] is a line taken apart; a [`Bench`] answers requests, and says so in an [`Answer`]; [`run`] reads lines and writes answers.
 
 mod bytes;
+pub mod examples;
+mod report;
 mod request;
+mod show;
 
-pub use bytes::{hex, parse_bytes};
+pub use bytes::{hex, parse_bytes, short_hex};
+pub use report::{pieces, Report};
 pub use request::{parse, Device, Head, Request, State};
 
 use std::fmt::Write as _;
 use std::io::{self, BufRead, Write};
+use std::process::ExitCode;
 
 /// What is answered to a request.
 #[derive(Debug, Clone, PartialEq, Eq)]
@@ -51,37 +56,78 @@ impl Answer {
             Self::Skip => "skip".to_string(),
         }
     }
+
+    /// The answer as it is printed, with the buffer behind it where one was lent.
+    #[must_use]
+    pub fn with_buffer(&self, out: Option<&[u8]>) -> String {
+        match (self, out) {
+            (Self::Ok(_) | Self::No(..), Some(out)) => format!("{} | {}", self.text(), hex(out)),
+            _ => self.text(),
+        }
+    }
 }
 
-/// A program that answers requests. A request that lends a buffer gets it as it is to be lent, and leaves in it what the call left.
+/// A program that answers requests.
 pub trait Bench {
-    /// Answers one request.
+    /// Answers one request. A request that lends a buffer gets it as it is to be lent, and leaves in it what the call left.
     fn answer(&mut self, request: &Request, out: &mut [u8]) -> Answer;
+
+    /// Decodes bytes from a fresh decoder, handed in in pieces of these sizes, and says whether a frame is open at the end. With no sizes each
+    /// report comes with the place of its byte; with sizes the place means nothing.
+    fn decode(&mut self, sizes: Option<&[usize]>, bytes: &[u8], report: &mut dyn FnMut(usize, Report<'_>)) -> bool;
+}
+
+/// The answer to `feed`, and with sizes to `chunks`.
+pub fn decoded<B: Bench>(bench: &mut B, sizes: Option<&[usize]>, bytes: &[u8]) -> Answer {
+    let mut said = Vec::new();
+    let open = bench.decode(sizes, bytes, &mut |place, report| {
+        said.push(if sizes.is_none() { format!("{place}:{}", report.text()) } else { report.text() });
+    });
+    if sizes.is_none() {
+        said.push(format!("open={}", u8::from(open)));
+    }
+    Answer::Ok(said.join(" "))
+}
+
+/// Answers one request, with the buffer behind it.
+pub fn respond(bench: &mut dyn Bench, request: &Request) -> String {
+    let mut out = request.lent().map(<[u8]>::to_vec);
+    let answer = bench.answer(request, out.as_deref_mut().unwrap_or_default());
+    answer.with_buffer(out.as_deref())
 }
 
 /// Answers one line.
 pub fn line(bench: &mut dyn Bench, text: &str) -> String {
-    let request = match parse(text) {
-        Ok(request) => request,
-        Err(why) => return Answer::What(why).text(),
-    };
-    let mut out = request.lent().map(<[u8]>::to_vec);
-    let answer = bench.answer(&request, out.as_deref_mut().unwrap_or_default());
-    match (&answer, out) {
-        (Answer::Ok(_) | Answer::No(..), Some(out)) => format!("{} | {}", answer.text(), hex(&out)),
-        _ => answer.text(),
+    match parse(text) {
+        Ok(request) => respond(bench, &request),
+        Err(why) => Answer::What(why).text(),
     }
 }
 
-/// Answers every line of standard input on standard output.
-///
-/// # Errors
-///
-/// Returns what reading or writing failed with.
-pub fn run(bench: &mut dyn Bench) -> io::Result<()> {
+/// Answers every line of standard input on standard output. A line that is no text is no request.
+fn run(bench: &mut dyn Bench) -> io::Result<()> {
     let mut output = io::stdout().lock();
-    for text in io::stdin().lock().lines() {
-        writeln!(output, "{}", line(bench, &text?))?;
+    for bytes in io::stdin().lock().split(b'\n') {
+        let said = match String::from_utf8(bytes?) {
+            Ok(text) => line(bench, text.strip_suffix('\r').unwrap_or(&text)),
+            Err(_) => Answer::What("the line is no text".to_string()).text(),
+        };
+        writeln!(output, "{said}")?;
     }
     output.flush()
+}
+
+/// The whole of a bench's program, which takes no words.
+pub fn main(name: &str, bench: &mut dyn Bench) -> ExitCode {
+    if std::env::args().len() != 1 {
+        eprintln!("usage: {name}    (reads requests on standard input, one a line, and answers each on standard output; it takes no words)");
+        return ExitCode::from(2);
+    }
+    match run(bench) {
+        Ok(()) => ExitCode::SUCCESS,
+        Err(error) => {
+            eprintln!("{name}: {error}");
+            ExitCode::FAILURE
+        }
+    }
 }

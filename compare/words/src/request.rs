@@ -110,11 +110,27 @@ impl Request {
             _ => None,
         }
     }
+
+    /// The bytes that the request is about, where it has some.
+    pub fn bytes_mut(&mut self) -> Option<&mut Vec<u8>> {
+        match self {
+            Self::Pack { bytes, .. }
+            | Self::Unpack { bytes, .. }
+            | Self::Feed(bytes)
+            | Self::Chunks { bytes, .. }
+            | Self::Call { bytes, .. }
+            | Self::Frame(bytes)
+            | Self::InquiryRequest(bytes)
+            | Self::InquiryReply(bytes) => Some(bytes),
+            Self::FrameWrite { head, .. } | Self::ReadBack(head) => Some(&mut head.run),
+            _ => None,
+        }
+    }
 }
 
 /// The words of a line, one after another.
 struct Words<'a> {
-    rest: std::iter::Peekable<std::str::SplitWhitespace<'a>>,
+    rest: std::iter::Filter<std::str::Split<'a, char>, fn(&&str) -> bool>,
 }
 
 impl<'a> Words<'a> {
@@ -179,7 +195,7 @@ impl<'a> Words<'a> {
 
     fn messages(&mut self) -> Result<Vec<[u16; 4]>, String> {
         let mut messages = Vec::new();
-        while let Some(word) = self.rest.next() {
+        for word in self.rest.by_ref() {
             let parts: Vec<&str> = word.split(',').collect();
             let [nibble, channel, a, b] = parts[..] else {
                 return Err("a message is NIBBLE,CHANNEL,A,B".to_string());
@@ -193,7 +209,7 @@ impl<'a> Words<'a> {
     }
 }
 
-fn number<T: std::str::FromStr>(word: &str, what: &str) -> Result<T, String> {
+pub(crate) fn number<T: std::str::FromStr>(word: &str, what: &str) -> Result<T, String> {
     if word.is_empty() || !word.bytes().all(|c| c.is_ascii_digit()) {
         return Err(format!("{what} is no number"));
     }
@@ -222,7 +238,7 @@ fn known_nibble(nibble: u8) -> Result<(), String> {
 ///
 /// Returns why the line is no request, or which kind no record names.
 pub fn parse(line: &str) -> Result<Request, String> {
-    let mut words = Words { rest: line.split_whitespace().peekable() };
+    let mut words = Words { rest: line.split(' ').filter(|word| !word.is_empty()) };
     let word = words.next("a word")?;
     let request = match word {
         "bank" => Request::Bank(words.number("N")?),

@@ -2,16 +2,8 @@
 
 use std::process::ExitCode;
 
+use engine::bench::Engine;
+
 fn main() -> ExitCode {
-    if std::env::args().len() != 1 {
-        eprintln!("usage: bench    (reads requests on standard input; it takes no words)");
-        return ExitCode::from(2);
-    }
-    match words::run(&mut engine::bench::Engine) {
-        Ok(()) => ExitCode::SUCCESS,
-        Err(error) => {
-            eprintln!("bench: {error}");
-            ExitCode::FAILURE
-        }
-    }
+    words::main("bench", &mut Engine::new())
 }

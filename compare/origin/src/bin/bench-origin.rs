@@ -5,15 +5,5 @@ use std::process::ExitCode;
 use origin::bench::Origin;
 
 fn main() -> ExitCode {
-    if std::env::args().len() != 1 {
-        eprintln!("usage: bench-origin    (reads requests on standard input; it takes no words)");
-        return ExitCode::from(2);
-    }
-    match words::run(&mut Origin::<2354>) {
-        Ok(()) => ExitCode::SUCCESS,
-        Err(error) => {
-            eprintln!("bench-origin: {error}");
-            ExitCode::FAILURE
-        }
-    }
+    words::main("bench-origin", &mut Origin::<2354>)
 }
