@@ -1,14 +1,25 @@
 # The two commands: `make check` proves what has changed, `make test` is the whole gate from nothing.
 # `make test` first runs the tests that stand outside Rattle, stops at the first failure, and ends with `rt ci`,
-# whose last line is 'N passed, M failed'.
+# whose last line is 'N passed, M failed'. What needs Rust, a C compiler, valgrind or the original's sources is skipped aloud
+# where they are missing; with CI=true they must be there.
 
 KIT := rattle-kit-5b-plain logic 097e4c862dff5811
 SOURCES := $(or $(DEEPMIND_SRC),../shared/docs/src)
+export DEEPMIND_SRC := $(abspath $(SOURCES))
 HOST := $(patsubst crates/%/src/lib.rt,%,$(shell grep -ls no_mangle crates/*/src/lib.rt))
+LIBRARY := target/staticlib/libcobnutdrill.a
 CARGO := RUSTFLAGS="-D warnings" cargo
-HAS_SOURCES := [ -d "$(SOURCES)/deepmind-midi" ]
+IN_COMPARE := --quiet --release --offline --manifest-path compare/Cargo.toml --target-dir target/compare
+ORIGINAL := the comparison with the original Rust
 
-.PHONY: check test kit layout outside lib bench compare
+# Ends a recipe where a tool is missing: well where that may be, and badly with CI=true.
+need = .ci/need $(1); case $$? in 0) ;; 1) exit 0 ;; *) exit 1 ;; esac
+
+# The same for the original's sources.
+need_sources = [ -d "$(SOURCES)/deepmind-midi" ] || \
+	{ echo "make: SKIPPED, since the original's sources are not at $(SOURCES) (set DEEPMIND_SRC): $(ORIGINAL)" >&2; [ "$$CI" != true ]; exit $$?; }
+
+.PHONY: check test kit layout outside lib bench compare compare-all host test-rust test-host
 
 check: kit
 	@rt check
@@ -24,32 +35,49 @@ kit:
 layout:
 	@rt fmt --check
 
-# The archive for C and Rust to link, at target/staticlib/libcobnutdrill.a: the entry points of every crate host_*.
-lib: kit
+# The archive for C and Rust to link: the entry points of every crate host_*.
+lib: kit $(LIBRARY)
+
+$(LIBRARY): $(shell find crates crates.txt -type f)
 	@command -v ar > /dev/null || { echo "make: ar is needed (binutils)" >&2; exit 1; }
-	@mkdir -p target/host
+	@mkdir -p target/objects
 	@for name in $(HOST); do \
 		rt staticlib $$name > target/lib.log 2>&1 || { tail -n 40 target/lib.log >&2; exit 1; }; \
-		(cd target/host && ar x ../staticlib/lib$$name.a) || exit 1; \
+		(cd target/objects && ar x ../staticlib/lib$$name.a) || exit 1; \
 	done
-	@rm -f target/staticlib/libcobnutdrill.a
-	@ar rcs target/staticlib/libcobnutdrill.a $(HOST:%=target/host/%.o)
+	@rm -f $@
+	@ar rcs $@ $(HOST:%=target/objects/%.o)
 
 # The bench's programs: over the engine at target/bench, and over the original at target/bench-origin where its sources are at hand.
 bench: lib
-	@$(HAS_SOURCES) || { echo "make: the original sources are not at $(SOURCES): set DEEPMIND_SRC" >&2; exit 1; }
-	@$(CARGO) build --quiet --release --offline --manifest-path compare/Cargo.toml --target-dir target/compare
-	@cp target/compare/release/bench target/compare/release/bench-origin target/
+	@$(call need,"the bench's programs" cargo cc); \
+	$(CARGO) build $(IN_COMPARE) -p engine && cp target/compare/release/bench target/ && \
+	{ $(need_sources); } && $(CARGO) build $(IN_COMPARE) -p origin -p both && cp target/compare/release/bench-origin target/
 
-# The same requests to the engine and to the original; and that a difference is seen where there is one.
+# The same requests to the engine and to the original, for some seconds; and that a difference is seen where there is one.
 compare: bench
-	@target/compare/release/compare
-	@! target/compare/release/compare --original-limit 2353 > target/compare.other || { echo "make: an original with another limit was not told apart" >&2; exit 1; }
+	@$(call need,"$(ORIGINAL)" cargo cc); $(need_sources); \
+	target/compare/release/compare --small && \
+	! target/compare/release/compare --small --original-limit 2353 > target/compare.other || \
+	{ echo "make: the two differ, or an original with another limit was not told apart" >&2; exit 1; }
+
+# Some tens of millions of requests, in a few minutes.
+compare-all: bench
+	@$(call need,"$(ORIGINAL)" cargo cc); $(need_sources); target/compare/release/compare
+
+# The C host, at target/host.
+host: lib
+	@$(call need,"the C host" gcc); rm -rf target/host && \
+	gcc -std=c99 -Wall -Wextra -Werror -O2 -Iinclude examples/host.c $(LIBRARY) -o target/host
+
+# The tests of compare/.
+test-rust: lib
+	@$(call need,"the tests in Rust" cargo cc); \
+	$(CARGO) test $(IN_COMPARE) -p words -p header -p engine && \
+	{ $(need_sources); } && $(CARGO) test $(IN_COMPARE) -p origin -p both
+
+test-host: lib
+	@$(call need,"the tests of the header and the C host" gcc); mkdir -p target/host-test && examples/test-host $(LIBRARY) target/host-test
 
 # The tests that stand outside Rattle.
-outside:
-	@$(CARGO) test --quiet --release --offline --manifest-path compare/Cargo.toml --target-dir target/compare -p words
-	@if $(HAS_SOURCES); then \
-		$(CARGO) test --quiet --release --offline --manifest-path compare/Cargo.toml --target-dir target/compare -p origin && \
-		$(MAKE) --no-print-directory compare; \
-	else echo "make: the original sources are not at $(SOURCES), so nothing is compared with them"; fi
+outside: test-rust compare test-host

@@ -4,8 +4,7 @@ use crate::random::Numbers;
 use crate::{Size, Tally};
 
 /// A byte or two of each class that the decoder tells apart.
-const CLASSES: [u8; 20] =
-    [0x00, 0x3C, 0x7F, 0x80, 0x90, 0xBF, 0xC5, 0xD0, 0xE0, 0xEF, 0xF0, 0xF1, 0xF2, 0xF3, 0xF4, 0xF6, 0xF7, 0xF8, 0xF9, 0xFF];
+const CLASSES: [u8; 20] = [0x00, 0x3C, 0x7F, 0x80, 0x90, 0xBF, 0xC5, 0xD0, 0xE0, 0xEF, 0xF0, 0xF1, 0xF2, 0xF3, 0xF4, 0xF6, 0xF7, 0xF8, 0xF9, 0xFF];
 
 pub fn ask(tally: &mut Tally, random: &mut Numbers, size: Size) {
     short(tally, size);
@@ -53,8 +52,20 @@ fn every_short_list(tally: &mut Tally, length: usize) {
 /// Frames of every length about the limit, ended in every way, alone and behind and ahead of other messages, whole and in pieces.
 fn about_the_limit(tally: &mut Tally, size: Size) {
     let ends: [&[u8]; 14] = [
-        &[0xF7], &[], &[0xF6], &[0x90], &[0xF0, 0x01, 0xF7], &[0xF8, 0xF7], &[0xF8, 0x01, 0xF7], &[0xF9, 0xF7], &[0xF7, 0x01, 0x02], &[0xF0], &[0xF4],
-        &[0xF2, 0x01, 0x02], &[0xFF, 0xF0, 0x05, 0xF8, 0xF7], &[0xC5, 0x01, 0xF7],
+        &[0xF7],
+        &[],
+        &[0xF6],
+        &[0x90],
+        &[0xF0, 0x01, 0xF7],
+        &[0xF8, 0xF7],
+        &[0xF8, 0x01, 0xF7],
+        &[0xF9, 0xF7],
+        &[0xF7, 0x01, 0x02],
+        &[0xF0],
+        &[0xF4],
+        &[0xF2, 0x01, 0x02],
+        &[0xFF, 0xF0, 0x05, 0xF8, 0xF7],
+        &[0xC5, 0x01, 0xF7],
     ];
     let pieces: [&[usize]; 6] = [&[1], &[7, 1, 512], &[2353], &[2354], &[2355, 0, 1], &[1000, 0, 0, 3]];
     let reach = size.pick(8, 20);
@@ -65,8 +76,8 @@ fn about_the_limit(tally: &mut Tally, size: Size) {
                     let mut bytes = front.to_vec();
                     bytes.push(0xF0);
                     bytes.extend((0..data).map(|i| (i * 31 % 128) as u8));
-                    if clock > 0 {
-                        bytes.insert(bytes.len() / clock, 0xF8);
+                    if let Some(at) = bytes.len().checked_div(clock) {
+                        bytes.insert(at, 0xF8);
                     }
                     bytes.extend_from_slice(end);
                     bytes.extend_from_slice(&[0x40, 0x90, 0x3C, 0x40, 0x41]);

@@ -120,11 +120,12 @@ impl Tally {
     /// original has no test for, and its buffer is as it was.
     fn verdict(&mut self, request: &Request) -> Verdict {
         let lent = request.lent().unwrap_or_default();
-        let [ours, theirs] = [(&mut self.engine as &mut dyn Bench, &mut self.ours), (self.original.as_mut(), &mut self.theirs)].map(|(bench, out)| {
-            out.clear();
-            out.extend_from_slice(lent);
-            bench.answer(request, out)
-        });
+        let [ours, theirs] =
+            [(&mut self.engine as &mut dyn Bench, &mut self.ours), (self.original.as_mut(), &mut self.theirs)].map(|(bench, out)| {
+                out.clear();
+                out.extend_from_slice(lent);
+                bench.answer(request, out)
+            });
         match (&ours, &theirs) {
             (Answer::No(number, _), Answer::Skip) if by_hand(*number) && may_skip(request.word()) && self.ours == lent => Verdict::PassedOver,
             (_, Answer::Skip) => Verdict::Different,
@@ -158,7 +159,7 @@ impl Tally {
         }
     }
 
-    /// Takes bytes out of a request as long as the two still differ.
+    /// Takes bytes out of a request as long as the two still differ, and writes 01 for each data byte that makes no difference.
     fn shortened(&mut self, mut request: Request) -> Request {
         let mut cut = request.bytes_mut().map_or(0, |bytes| bytes.len());
         while cut > 0 {
@@ -175,6 +176,15 @@ impl Tally {
                 }
             }
             cut /= 2;
+        }
+        for place in 0..request.bytes_mut().map_or(0, |bytes| bytes.len()) {
+            let mut plainer = request.clone();
+            if let Some(byte) = plainer.bytes_mut().and_then(|bytes| bytes.get_mut(place)).filter(|byte| **byte < 0x80) {
+                *byte = 1;
+            }
+            if self.verdict(&plainer) == Verdict::Different {
+                request = plainer;
+            }
         }
         request
     }

@@ -1,6 +1,6 @@
 //! The comparison sees differences, tells the shortest, and passes over nothing that it must not.
 
-use both::{ask, Size, Tally};
+use both::Tally;
 use origin::bench::Origin;
 use words::{Answer, Bench, Report, Request};
 
@@ -61,13 +61,4 @@ fn another_limit_is_seen() {
     frame[0] = 0xF0;
     tally.stream(None, &frame);
     assert_eq!(tally.differences()["feed"].request, "feed f0.01*2353");
-}
-
-/// Every row and every request of the small run.
-#[test]
-#[ignore = "make compare runs it"]
-fn small() {
-    let mut tally = Tally::new(Box::new(Origin::<2354>));
-    ask(&mut tally, Size::Small);
-    assert!(tally.differences().is_empty(), "{:?}", tally.differences());
 }

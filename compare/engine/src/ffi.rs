@@ -128,18 +128,30 @@ mod c {
         pub fn dm_feed(state: *mut u8, state_len: usize, store: *mut u8, store_len: usize, bytes: *const u8, bytes_len: usize) -> FedAnswer;
         pub fn dm_frame_read(bytes: *const u8, bytes_len: usize) -> ReadAnswer;
         pub fn dm_frame_len(command: u8, has_pattern: u8, run_len: usize) -> Answer;
-        #[rustfmt::skip]
         pub fn dm_frame_write(
-            everyone: u8, unit: u8, command: u8, free: u8, version: u8, bank: u8, program: u8, last: u8, pattern: u8, has_pattern: u8,
-            interface: u8, rx: u8, tx: u8, run: *const u8, run_len: usize, out: *mut u8, out_len: usize,
+            everyone: u8,
+            unit: u8,
+            command: u8,
+            free: u8,
+            version: u8,
+            bank: u8,
+            program: u8,
+            last: u8,
+            pattern: u8,
+            has_pattern: u8,
+            interface: u8,
+            rx: u8,
+            tx: u8,
+            run: *const u8,
+            run_len: usize,
+            out: *mut u8,
+            out_len: usize,
         ) -> Answer;
         pub fn dm_request_read(bytes: *const u8, bytes_len: usize) -> RequestAnswer;
         pub fn dm_reply_read(bytes: *const u8, bytes_len: usize) -> ReplyAnswer;
         pub fn dm_request_write(everyone: u8, unit: u8, out: *mut u8, out_len: usize) -> Answer;
-        #[rustfmt::skip]
-        pub fn dm_reply_write(
-            everyone: u8, unit: u8, major: u8, minor: u8, voice_major: u8, voice_minor: u8, out: *mut u8, out_len: usize,
-        ) -> Answer;
+        pub fn dm_reply_write(everyone: u8, unit: u8, major: u8, minor: u8, voice_major: u8, voice_minor: u8, out: *mut u8, out_len: usize)
+            -> Answer;
         pub fn dm_held_fresh(keys: *mut u8, keys_len: usize) -> Answer;
         pub fn dm_held_apply(keys: *mut u8, keys_len: usize, nibble: u8, channel: u8, a: u16, b: u8) -> Answer;
         pub fn dm_held_count(keys: *const u8, keys_len: usize, channel: u8) -> Answer;

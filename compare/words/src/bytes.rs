@@ -73,7 +73,7 @@ pub fn parse_bytes(word: &str) -> Result<Vec<u8>, String> {
 
 fn plain(digits: &str) -> Result<Vec<u8>, String> {
     let digits = digits.as_bytes();
-    if digits.is_empty() || digits.len() % 2 != 0 {
+    if digits.is_empty() || digits.len() & 1 == 1 {
         return Err("bytes are pairs of hexadecimal digits".to_string());
     }
     digits.chunks(2).map(|pair| Ok(digit(pair[0])? * 16 + digit(pair[1])?)).collect()

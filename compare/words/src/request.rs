@@ -225,7 +225,7 @@ fn flag(word: &str, what: &str) -> Result<bool, String> {
 }
 
 fn known_nibble(nibble: u8) -> Result<(), String> {
-    if nibble % 16 == 0 && (128..=224).contains(&nibble) {
+    if nibble & 15 == 0 && (128..=224).contains(&nibble) {
         Ok(())
     } else {
         Err("no channel message has this nibble".to_string())

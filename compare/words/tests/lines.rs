@@ -20,8 +20,23 @@ fn bytes() {
 #[test]
 fn no_requests() {
     for text in [
-        "bank -1", "bank +1", "bank\t1", "plen 18446744073709551616", "chan 240 0 1 2 00", "chan 144 0 256 2 00", "chan 224 0 65536 2 00", "common 244 0 00",
-        "rtw 249 00", "call 2,0,-,0,0,0 - -", "call 0,0,- - -", "chunks 0,0 90", "wreq 7 00", "wreq u256 00", "wreq u 00", "held 144,16", "held 145,0,0,0",
+        "bank -1",
+        "bank +1",
+        "bank\t1",
+        "plen 18446744073709551616",
+        "chan 240 0 1 2 00",
+        "chan 144 0 256 2 00",
+        "chan 224 0 65536 2 00",
+        "common 244 0 00",
+        "rtw 249 00",
+        "call 2,0,-,0,0,0 - -",
+        "call 0,0,- - -",
+        "chunks 0,0 90",
+        "wreq 7 00",
+        "wreq u256 00",
+        "wreq u 00",
+        "held 144,16",
+        "held 145,0,0,0",
     ] {
         assert!(parse(text).is_err(), "{text}");
     }
@@ -33,10 +48,37 @@ fn no_requests() {
 #[test]
 fn a_request_is_shown_as_its_line() {
     for text in [
-        "bank 9", "program 1", "pattern 2", "version 3", "device 4", "channel 5", "interface 6", "command 7", "rawlen 6", "datalen 144", "rt 248", "plen 3",
-        "ulen 18446744073709551615", "pack 0102 55*9", "unpack - -", "chan 224 3 8192 0 000000", "common 242 9 -", "rtw 248 00", "feed f0.01*9.f7",
-        "chunks 4,7,5 903c40", "call 0,0,144,1,60,9 00*2354 40f8", "reset 1,5,-,0,0,0", "frame f0f7", "fwrite u16 12 127 6 7 128 127 31 1 0 127 127 - 55*10",
-        "readback all 2 0 7 0 0 0 0 0 0 0 0 01*280", "ireq f0f7", "irep -", "wreq all 00*6", "wrep u3 1 2 3 4 00*17", "held", "held 224,3,16383,0 144,16,1,1",
+        "bank 9",
+        "program 1",
+        "pattern 2",
+        "version 3",
+        "device 4",
+        "channel 5",
+        "interface 6",
+        "command 7",
+        "rawlen 6",
+        "datalen 144",
+        "rt 248",
+        "plen 3",
+        "ulen 18446744073709551615",
+        "pack 0102 55*9",
+        "unpack - -",
+        "chan 224 3 8192 0 000000",
+        "common 242 9 -",
+        "rtw 248 00",
+        "feed f0.01*9.f7",
+        "chunks 4,7,5 903c40",
+        "call 0,0,144,1,60,9 00*2354 40f8",
+        "reset 1,5,-,0,0,0",
+        "frame f0f7",
+        "fwrite u16 12 127 6 7 128 127 31 1 0 127 127 - 55*10",
+        "readback all 2 0 7 0 0 0 0 0 0 0 0 01*280",
+        "ireq f0f7",
+        "irep -",
+        "wreq all 00*6",
+        "wrep u3 1 2 3 4 00*17",
+        "held",
+        "held 224,3,16383,0 144,16,1,1",
     ] {
         let request = parse(text).expect(text);
         assert_eq!(request.to_string(), text);
