@@ -14,6 +14,16 @@ pub struct Difference {
     pub engine: String,
     /// How many requests of the word differed.
     pub seen: u64,
+    /// The fewer bytes, and then the shorter line, the shorter the request.
+    measure: (usize, usize),
+}
+
+/// Differences of a word that are made shorter though a shorter one is known.
+const TRIED: u64 = 100;
+
+fn measure(request: &Request) -> (usize, usize) {
+    let bytes = request.clone().bytes_mut().map_or(0, |bytes| bytes.len());
+    (bytes, request.to_string().len())
 }
 
 /// How two answers stand to each other.
@@ -75,7 +85,7 @@ impl Tally {
         if said.0 == original && said.1 == engine {
             *self.alike.entry("rows").or_default() += 1;
         } else {
-            self.keep("rows", Difference { request: request.to_string(), original: said.0, engine: said.1, seen: 1 });
+            self.keep("rows", Difference { request: request.to_string(), original: said.0, engine: said.1, seen: 1, measure: measure(request) });
         }
     }
 
@@ -139,19 +149,19 @@ impl Tally {
         let word = request.word();
         if let Some(known) = self.differences.get_mut(word) {
             known.seen += 1;
-            if request.to_string().len() >= known.request.len() {
+            if known.seen > TRIED && known.measure <= measure(&request) {
                 return;
             }
         }
         let request = self.shortened(request);
         let original = words::respond(self.original.as_mut(), &request);
         let engine = words::respond(&mut self.engine, &request);
-        self.keep(word, Difference { request: request.to_string(), original, engine, seen: 1 });
+        self.keep(word, Difference { request: request.to_string(), original, engine, seen: 1, measure: measure(&request) });
     }
 
     fn keep(&mut self, word: &'static str, found: Difference) {
         match self.differences.get_mut(word) {
-            Some(known) if known.request.len() <= found.request.len() => {}
+            Some(known) if known.measure <= found.measure => {}
             Some(known) => *known = Difference { seen: known.seen, ..found },
             None => {
                 self.differences.insert(word, found);
