@@ -9,7 +9,6 @@ use Rattle.decoder.specs.Call.{Walked, answerOf, storeOf}
 use Rattle.decoder_in_place.specs.declared.Taken.{Taken}
 use Rattle.decoder_in_place.specs.declared.TakeAnswer.{TakeAnswer}
 use Rattle.decoder_in_place.specs.declared.TakeAnswer.the-variants as a
-use Rattle.decoder_in_place.specs.declared.Next.{Next}
 
 -- what is answered: all but the state, which stands behind the reference
 abbrev pub takenOf : Outcome Walked → Outcome Taken
@@ -30,7 +29,3 @@ pub record FeedsInPlace (o : Outcome Walked) (answer : TakeAnswer) (state next :
   pub answers : taken answer ≡ takenOf o
   pub keeps : next ≡ stateOf o state
   pub leaves : afterwards ≡ storeOf o before
-
--- the same with the state beside the answer
-abbrev pub Moves : Outcome Walked → Next → Decoder → List ℕ → List ℕ → Type 0
-Moves o m state before afterwards = FeedsInPlace o (m .answer) state (m .state) before afterwards

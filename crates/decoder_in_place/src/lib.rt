@@ -2,7 +2,7 @@
 ghost use mathlib.Core.Path.{_≡_};
 ghost use Rattle.decoder.specs.State.{reset};
 ghost use Rattle.decoder.specs.Call.{call};
-ghost use Rattle.decoder_in_place.specs.InPlace.{Moves, FeedsInPlace};
+ghost use Rattle.decoder_in_place.specs.InPlace.{FeedsInPlace};
 use decoder::Decoder;
 use decoder::FeedAnswer;
 use decoder::MaybeReport;
@@ -21,14 +21,14 @@ pub enum TakeAnswer {
 }
 
 // The state for the next call, beside the answer.
-pub struct Next {
-    pub state: Decoder,
-    pub answer: TakeAnswer,
+struct Next {
+    state: Decoder,
+    answer: TakeAnswer,
 }
 
 // The call by value, with the state taken out of its answer; a refused call leaves it as it was.
-pub fn moved(state: Decoder, store: &mut [u8], bytes: &[u8]) -> Next
-    ensures { λ r. ⌜ Moves (call state (now (store .entry)) (now (bytes .entry))) r state (now (store .entry)) (now (store .exit)) ⌝ }
+fn moved(state: Decoder, store: &mut [u8], bytes: &[u8]) -> Next
+    ensures { λ r. ⌜ FeedsInPlace (call state (now (store .entry)) (now (bytes .entry))) (r .answer) state (r .state) (now (store .entry)) (now (store .exit)) ⌝ }
 {
     let answer = state.feed(store, bytes);
     match answer {

@@ -48,7 +48,7 @@ use Rattle.decoder.proofs.Decoder as T
 use Rattle.decoder.proofs.Decoder.Laws as T′
 use Rattle.decoder_in_place.specs.declared.Next.{Next}
 use Rattle.decoder_in_place.specs.declared.TakeAnswer.{TakeAnswer}
-use Rattle.decoder_in_place.specs.InPlace.{FeedsInPlace, Moves}
+use Rattle.decoder_in_place.specs.InPlace.{FeedsInPlace}
 use Rattle.decoder_in_place.proofs.Next as N
 use Rattle.decoder_in_place.proofs.Next.Laws as N′
 use Rattle.decoder_in_place.proofs.TakeAnswer as E
@@ -107,7 +107,7 @@ module _ {M : Type 1} (𝓤 : URA M) (H : Heap 𝓤) (A : Atoms 𝓤) (W : Given
   asks = qed W ((‵ (flft κ₁ q₁) ⊛ ‵ (flft κ₂ q₂) ⊛ ‵ ftrue) ∷ ‵ (owns (T.the-row ∷ MutSlice (named 0) κ₁ u8 ∷ ShrSlice (named 1) κ₂ u8 ∷ []) (d, (s, (t, tt))) passed) ∷ []) ∵ join ! $ frame ! $ done !
 
   abbrev Said : Next → List ℕ → Type 0
-  Said r zs = Moves (call d (s .now) (t .now)) r d (s .now) zs
+  Said r zs = FeedsInPlace (call d (s .now) (t .now)) (r .answer) d (r .state) (s .now) zs
 
   exits : (a : TakeAnswer) (d′ : Decoder) (zs : List ℕ) → FeedsInPlace (call d (s .now) (t .now)) a d d′ (s .now) zs → length zs ≡ length (s .now) → Is E.the-row a (valE a ∷ [])
       → ent 𝓤 (⋆ 𝓤 H A (‵ (fobs γ (T.the-row .coded .code d′)) ∷ ‵ (fbor κ (Body (mem T.the-row) b o γ)) ∷ ‵ (flft κ q) ∷ (‵ (flft κ₁ q₁) ⊛ ‵ (flft κ₂ q₂) ⊛ ‵ ftrue) ∷ ‵ (finally u8 (s .name) zs) ∷ ‵ OwnT ∷ [])) (Post (valE a))
