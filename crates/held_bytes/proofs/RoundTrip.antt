@@ -1,17 +1,19 @@
 -- Nothing is lost between a record and its bytes, because each says which keys are held, and is known by them.
-use mathlib.Core.Path.{_≡_, ap, ap₂, sym, _∙_}
-use mathlib.Core.Bool.{Bool}
+use mathlib.Core.Path.{_≡_, refl, ap, ap₂, sym, _∙_}
+use mathlib.Core.Bool.{Bool, false}
 use mathlib.Core.List.{List, []}
 use Prim.Native.Nat.{ℕ, _+_, _*_, _/_, _%_, _^_, _<_}
 use native.Mathlib.Omega.{arith}
-use lib.ListN.{length, getD}
+use lib.ListN.{length, getD, replicate}
 use lib.Seq.{ext-getD}
-use Rattle.laws.proofs.Tabulate.{length-tab, getD-tab}
+use Rattle.laws.specs.Tabulate.{tab}
+use Rattle.laws.proofs.Tabulate.{length-tab, getD-tab, tab-same}
 use Rattle.held_keys.specs.HeldKeys.{bit, isHeld}
-use Rattle.held_keys.specs.Record.{Shaped}
+use Rattle.held_keys.specs.Record.{Shaped, wordOf}
 use Rattle.held_keys.proofs.Known.{word-known, record-known}
 use Rattle.held_keys.proofs.Made.{word-small, word-bit, made-shaped, made-held}
 use Rattle.held_bytes.specs.HeldBytes.{keysOf, bytesOf, byteOf, heldIn}
+use Rattle.held_bytes.proofs.Words.{word-same}
 
 -- which keys the bytes say to be held
 pub held-in-bytes : (bytes : List ℕ) (c k : ℕ) → c < 16 → k < 128 → isHeld (keysOf bytes) c k ≡ bit (getD bytes (16 * c + k / 8) 0) (k % 8)
@@ -37,6 +39,27 @@ bytes-say keys c k hc hk =
     ap (λ (b : ℕ). bit b (k % 8)) (byte-there keys i (omega arith))
     ∙ word-bit (λ j. isHeld keys (i / 16) (8 * (i % 16) + j)) 8 (k % 8) (omega arith)
     ∙ ap₂ (λ (x y : ℕ). isHeld keys x y) channel key
+
+-- bytes are made of the held keys alone
+pub bytes-same : (keys others : List (List ℕ)) → ((c k : ℕ) → c < 16 → k < 128 → isHeld keys c k ≡ isHeld others c k) → bytesOf keys ≡ bytesOf others
+unfolding bytesOf
+bytes-same keys others same =
+    tab-same (byteOf keys) (byteOf others) 256
+    (λ i h.
+    word-same (λ j. isHeld keys (i / 16) (8 * (i % 16) + j)) (λ j. isHeld others (i / 16) (8 * (i % 16) + j)) 8
+    (λ j b. same (i / 16) (8 * (i % 16) + j) (omega arith) (omega arith)))
+
+-- with no key held every byte is 0
+all-zeros : tab (λ i. wordOf (λ j. false) 8) 256 ≡ replicate 256 0
+unfolding wordOf
+all-zeros = refl
+
+pub bytes-fresh : (keys : List (List ℕ)) → ((c k : ℕ) → isHeld keys c k ≡ false) → bytesOf keys ≡ replicate 256 0
+unfolding bytesOf
+bytes-fresh keys none =
+    tab-same (byteOf keys) (λ i. wordOf (λ j. false) 8) 256
+    (λ i h. word-same (λ j. isHeld keys (i / 16) (8 * (i % 16) + j)) (λ j. false) 8 (λ j b. none (i / 16) (8 * (i % 16) + j)))
+    ∙ all-zeros
 
 -- a record written and read is that record
 pub keys-read-back : (keys : List (List ℕ)) → Shaped keys → keysOf (bytesOf keys) ≡ keys
