@@ -4,8 +4,10 @@ ghost use lib.ListN.{length};
 ghost use Rattle.wire.specs.Status.{channelDataLength};
 ghost use Rattle.wire.specs.Common.{commonStatus};
 ghost use Rattle.wire.specs.Realtime.{realtimeOf};
-ghost use Rattle.host_messages.specs.Messages.{lengthAnswer, realtimeAnswer, channelKind, ChannelSent, CommonSent, RealtimeSent};
+ghost use Rattle.kinds.specs.Kinds.{channelKind};
+ghost use Rattle.host_messages.specs.Messages.{lengthAnswer, realtimeAnswer, ChannelSent, CommonSent, RealtimeSent};
 use boundary::Answer;
+use kinds::of_nibble;
 use wire::Channel;
 use wire::ChannelMessage;
 use wire::CommonStatus;
@@ -34,35 +36,6 @@ pub extern "C" fn dm_realtime(byte: u8) -> Answer
     match Realtime::from_status(byte) {
         MaybeRealtime::Some(message) => boundary::done(message.to_status() as u64),
         MaybeRealtime::None => boundary::no_record(),
-    }
-}
-
-// The message of a status nibble and its data: a is the whole of a bend, and the first data byte of every other message.
-fn of_nibble(nibble: u8, a: u16, b: u8) -> MaybeChannelMessage
-    ensures { λ r. ⌜ r ≡ channelKind nibble a b ⌝ }
-{
-    let first = (a % 256) as u8;
-    match nibble {
-        0x80 => MaybeChannelMessage::Some(ChannelMessage::NoteOff {
-            key: first,
-            velocity: b,
-        }),
-        0x90 => MaybeChannelMessage::Some(ChannelMessage::NoteOn {
-            key: first,
-            velocity: b,
-        }),
-        0xA0 => MaybeChannelMessage::Some(ChannelMessage::PolyKeyPressure {
-            key: first,
-            pressure: b,
-        }),
-        0xB0 => MaybeChannelMessage::Some(ChannelMessage::ControlChange {
-            controller: first,
-            value: b,
-        }),
-        0xC0 => MaybeChannelMessage::Some(ChannelMessage::ProgramChange { program: first }),
-        0xD0 => MaybeChannelMessage::Some(ChannelMessage::ChannelPressure { pressure: first }),
-        0xE0 => MaybeChannelMessage::Some(ChannelMessage::PitchBend { value: a }),
-        _ => MaybeChannelMessage::None,
     }
 }
 
