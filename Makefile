@@ -10,14 +10,11 @@ HOST := $(patsubst crates/%/src/lib.rt,%,$(shell grep -ls no_mangle crates/*/src
 LIBRARY := target/staticlib/libcobnutdrill.a
 CARGO := RUSTFLAGS="-D warnings" cargo
 IN_COMPARE := --quiet --release --offline --manifest-path compare/Cargo.toml --target-dir target/compare
-ORIGINAL := the comparison with the original Rust
+ORIGINAL := the comparison with the original Rust (DEEPMIND_SRC names its sources)
 
-# Ends a recipe where a tool is missing: well where that may be, and badly with CI=true.
-need = .ci/need $(1); case $$? in 0) ;; 1) exit 0 ;; *) exit 1 ;; esac
-
-# The same for the original's sources.
-need_sources = [ -d "$(SOURCES)/deepmind-midi" ] || \
-	{ echo "make: SKIPPED, since the original's sources are not at $(SOURCES) (set DEEPMIND_SRC): $(ORIGINAL)" >&2; [ "$$CI" != true ]; exit $$?; }
+# Ends a recipe where a tool or a folder is missing: well where that may be, and badly with CI=true.
+need = { .ci/need $(1); case $$? in 0) ;; 1) exit 0 ;; *) exit 1 ;; esac; }
+need_sources = $(call need,"$(ORIGINAL)" "$(SOURCES)/deepmind-midi")
 
 .PHONY: check test kit layout outside lib bench compare compare-all host test-rust test-host
 
@@ -52,7 +49,7 @@ $(LIBRARY): $(shell find crates crates.txt -type f)
 bench: lib
 	@$(call need,"the bench's programs" cargo cc); \
 	$(CARGO) build $(IN_COMPARE) -p engine && cp target/compare/release/bench target/ && \
-	{ $(need_sources); } && $(CARGO) build $(IN_COMPARE) -p origin -p both && cp target/compare/release/bench-origin target/
+	$(need_sources) && $(CARGO) build $(IN_COMPARE) -p origin -p both && cp target/compare/release/bench-origin target/
 
 # The same requests to the engine and to the original, for some seconds; and that a difference is seen where there is one.
 compare: bench
@@ -74,7 +71,7 @@ host: lib
 test-rust: lib
 	@$(call need,"the tests in Rust" cargo cc); \
 	$(CARGO) test $(IN_COMPARE) -p words -p header -p engine && \
-	{ $(need_sources); } && $(CARGO) test $(IN_COMPARE) -p origin -p both
+	$(need_sources) && $(CARGO) test $(IN_COMPARE) -p origin -p both
 
 test-host: lib
 	@$(call need,"the tests of the header and the C host" gcc); mkdir -p target/host-test && examples/test-host $(LIBRARY) target/host-test

@@ -33,6 +33,9 @@ fn sources() -> Vec<(String, String)> {
 fn the_header_and_the_engine_agree() {
     let (header, engine) = (header(&text("include/cobnutdrill.h")), engine(&sources()));
     assert_eq!(drift(&header, &engine), Vec::<String>::new());
+    for name in ["MAX_SYSEX_LEN", "REQUEST_LEN", "REPLY_LEN"] {
+        assert_eq!(header.constants.get(name), engine.others.get(name), "{name} of another crate");
+    }
     assert!(header.calls.len() > 30 && header.records.len() > 5 && header.constants.len() > 30, "little was read: {header:?}");
 }
 
