@@ -41,11 +41,11 @@ pub extern "C" fn dm_request_read(bytes: &[u8]) -> RequestAnswer
     ensures { λ r. ⌜ r ≡ requestAnswer (readRequest (now (bytes .entry))) ⌝ }
 {
     match inquiry::parse_request(bytes) {
-        DeviceAnswer::Ok(device) => RequestAnswer {
+        DeviceAnswer::Ok(asked) => RequestAnswer {
             number: 0,
             detail0: 0,
-            everyone: boundary::everyone_of(device),
-            unit: boundary::unit_of(device),
+            everyone: boundary::everyone_of(asked),
+            unit: boundary::unit_of(asked),
         },
         DeviceAnswer::Err(e) => {
             let why = boundary::refused(e);

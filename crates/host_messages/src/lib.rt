@@ -33,7 +33,7 @@ pub extern "C" fn dm_data_len(status: u8) -> Answer
 pub extern "C" fn dm_realtime(byte: u8) -> Answer
     ensures { λ r. ⌜ r ≡ realtimeAnswer (realtimeOf byte) ⌝ }
 {
-    match Realtime::from_status(byte) {
+    match wire::Realtime::from_status(byte) {
         MaybeRealtime::Some(message) => boundary::done(message.to_status() as u64),
         MaybeRealtime::None => boundary::no_record(),
     }

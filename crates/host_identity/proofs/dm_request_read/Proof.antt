@@ -16,8 +16,8 @@ use Rattle.inquiry.proofs.parse_request.Reads as parse-request-reads
 parse-request-requires : tie.Need-parse-request-requires
 parse-request-requires c κs = search needs
 
-enum-known-device : tie.Need-enum-known-device
-enum-known-device c = search needs
+enum-known-asked : tie.Need-enum-known-asked
+enum-known-asked c = search needs
 
 everyone-of-requires : tie.Need-everyone-of-requires
 everyone-of-requires c κs = search needs
@@ -32,7 +32,7 @@ refused-requires : tie.Need-refused-requires
 refused-requires c κs = search needs
 
 returns : tie.Need-returns
-returns c = let d = c .before .before .before .device .given in
+returns c = let d = c .before .before .before .asked .given in
     request-told (readRequest (c .before .before .before .before .before .before .before .args .bytes .now)) (d .0 .0) (c .before .everyone-of .result) (c .unit-of .result)
     (ap deviceTold (sym (d .1)) ∙ c .before .before .before .before .before .parse-request .ensures) (c .before .everyone-of .ensures) (c .unit-of .ensures)
 
@@ -46,7 +46,7 @@ dm-request-read-spec =
     tie.close
     (tie.spec
     parse-request-requires
-    enum-known-device
+    enum-known-asked
     everyone-of-requires
     unit-of-requires
     enum-known-e

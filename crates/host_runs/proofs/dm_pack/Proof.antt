@@ -14,8 +14,7 @@ same-length : tie.Need-same-length
 same-length c = search needs
 
 returns : tie.Need-returns
-returns c = writer-told _ (c .before .before .before .pack-into .result) (c .count .result) (c .before .before .before .before .before .before .before .args .out .now) (c .before .before .before .pack-into .last .1 .0)
-    (c .before .before .before .pack-into .ensures) (c .count .ensures)
+returns c = writer-told _ _ _ _ _ (c .before .before .before .pack-into .ensures) (c .count .ensures)
 
 pub dm-pack-spec : {M : Type 1} → statement M
 dm-pack-spec = tie.close (tie.spec pack-into-requires count-requires same-length returns)

@@ -14,8 +14,7 @@ same-length : tie.Need-same-length
 same-length c = search needs
 
 returns : tie.Need-returns
-returns c = writer-told _ (c .before .before .before .unpack-into .result) (c .count .result) (c .before .before .before .before .before .before .before .args .out .now) (c .before .before .before .unpack-into .last .1 .0)
-    (c .before .before .before .unpack-into .ensures) (c .count .ensures)
+returns c = writer-told _ _ _ _ _ (c .before .before .before .unpack-into .ensures) (c .count .ensures)
 
 pub dm-unpack-spec : {M : Type 1} → statement M
 dm-unpack-spec = tie.close (tie.spec unpack-into-requires count-requires same-length returns)
