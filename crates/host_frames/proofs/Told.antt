@@ -12,23 +12,23 @@ use Rattle.refusal.specs.declared.Refusal.{Refusal}
 use Rattle.refusal.specs.Outcome.{Outcome, gives, refusal}
 use Rattle.message.specs.Wire.{carriesRun, fieldList}
 use Rattle.frame_reader.specs.declared.Record.{Record}
-use Rattle.frame_reader.specs.Reader.{readRecord, runIn, runOf, payload}
+use Rattle.frame_reader.specs.Reader.{readRecord, runIn, runOf, payload, placeIn}
 use Rattle.frame_reader.proofs.Accepted.{described}
 use Rattle.frame_reader.proofs.RunPlace.{prefix-there, length-payload, run-part}
 use Rattle.boundary.specs.declared.Answer.{Answer}
 use Rattle.boundary.specs.Answer.{answerOf, noRecord}
 use Rattle.host_frames.specs.declared.ReadAnswer.{ReadAnswer}
-use Rattle.host_frames.specs.Frames.{numbersOf, runStart, readAnswer}
+use Rattle.host_frames.specs.Frames.{numbersOf, readAnswer}
 
 pub read-refused : (bytes : List ℕ) (e : Refusal) (a : ReadAnswer) → refusal e ≡ readRecord bytes → a ≡ readAnswer (refusal e) []
     → a ≡ readAnswer (readRecord bytes) bytes
 read-refused bytes e a h i = rw (← h) i
 
-pub read-told : (bytes : List ℕ) (r : Record) (start len : ℕ) (a : ReadAnswer) → gives r ≡ readRecord bytes → start ≡ runStart r
+pub read-told : (bytes : List ℕ) (r : Record) (start len : ℕ) (a : ReadAnswer) → gives r ≡ readRecord bytes → start ≡ placeIn r
     → len ≡ length (runIn r bytes) → a ≡ numbersOf (r .device) (r .command) (r .fields) start len → a ≡ readAnswer (readRecord bytes) bytes
 read-told bytes r start len a h i j k =
     k ∙ ap (λ (s : ℕ). numbersOf (r .device) (r .command) (r .fields) s len) i
-    ∙ ap (λ (n : ℕ). numbersOf (r .device) (r .command) (r .fields) (runStart r) n) j ∙ ap (λ o. readAnswer o bytes) h
+    ∙ ap (λ (n : ℕ). numbersOf (r .device) (r .command) (r .fields) (placeIn r) n) j ∙ ap (λ o. readAnswer o bytes) h
 
 module _ (bytes : List ℕ) (r : Record) (h : gives r ≡ readRecord bytes) where
   -- the prefix is there in every accepted frame
@@ -37,7 +37,7 @@ module _ (bytes : List ℕ) (r : Record) (h : gives r ≡ readRecord bytes) wher
       let d = described bytes r (sym h) in
       (d .long, omega (arith, d .long, e, prefix-there bytes r d))
 
-  pub start-told : (n : ℕ) → carriesRun (r .command) ≡ true → n ≡ length (fieldList (r .command) (r .fields .«has_pattern»)) → 7 + n ≡ runStart r
+  pub start-told : (n : ℕ) → carriesRun (r .command) ≡ true → n ≡ length (fieldList (r .command) (r .fields .«has_pattern»)) → 7 + n ≡ placeIn r
   start-told n c e = rw (c, e)
 
   pub length-told : (n : ℕ) → carriesRun (r .command) ≡ true → n ≡ length (fieldList (r .command) (r .fields .«has_pattern»))
@@ -47,17 +47,17 @@ module _ (bytes : List ℕ) (r : Record) (h : gives r ≡ readRecord bytes) wher
       let p : length (drop n (payload bytes)) ≡ length (payload bytes) - n = length-drop n (payload bytes) in
       rw (c, ← e, p, length-payload bytes r (described bytes r (sym h))) (omega (arith, f .0, f .1))
 
-  pub no-start : carriesRun (r .command) ≡ false → 0 ≡ runStart r
+  pub no-start : carriesRun (r .command) ≡ false → 0 ≡ placeIn r
   no-start c = rw c
 
   pub no-length : carriesRun (r .command) ≡ false → 0 ≡ length (runIn r bytes)
   no-length c = rw c
 
   -- the run's place is right: the bytes there are the run
-  pub run-lies-there : take (length (runIn r bytes)) (drop (runStart r) bytes) ≡ runOf bytes
+  pub run-lies-there : take (length (runIn r bytes)) (drop (placeIn r) bytes) ≡ runOf bytes
   run-lies-there = go (carriesRun (r .command)) refl
     where
-      go : (t : Bool) → carriesRun (r .command) ≡ t → take (length (runIn r bytes)) (drop (runStart r) bytes) ≡ runOf bytes
+      go : (t : Bool) → carriesRun (r .command) ≡ t → take (length (runIn r bytes)) (drop (placeIn r) bytes) ≡ runOf bytes
       go true c =
           let n = length (fieldList (r .command) (r .fields .«has_pattern»)) in
           rw (← h, ← length-told n c refl, ← start-told n c refl, c, run-part bytes n)

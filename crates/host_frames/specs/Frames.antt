@@ -1,19 +1,16 @@
 -- Frames at the boundary: every field a plain number, the run by its place in the caller's bytes.
-use mathlib.Core.Bool.{Bool, false}
 use mathlib.Core.List.{List}
-use Prim.Native.Nat.{ℕ, _+_}
+use Prim.Native.Nat.{ℕ}
 use lib.Dec.{eqb}
 use lib.ListN.{length, getD}
-use Rattle.laws.specs.Choice.{pick}
 use Rattle.refusal.specs.Outcome.{Outcome, gives, refused, andThen}
 use Rattle.ids.specs.declared.DeviceId.{DeviceId}
 use Rattle.command.specs.declared.Command.{Command}
 use Rattle.command.specs.Command.{codeOf, commandOf}
 use Rattle.message.specs.declared.Fields.{Fields}
 use Rattle.message.specs.Head.{headFrom}
-use Rattle.message.specs.Wire.{carriesRun, fieldList}
 use Rattle.frame_reader.specs.declared.Record.{Record}
-use Rattle.frame_reader.specs.Reader.{runIn}
+use Rattle.frame_reader.specs.Reader.{runIn, placeIn}
 use Rattle.frame_writer.specs.Writer.{headLength}
 use Rattle.boundary.specs.Answer.{flag}
 use Rattle.boundary.specs.Device.{everyoneOf, unitOf}
@@ -45,13 +42,9 @@ numbersOf d k f start len =
       «run_len» = len;
     }
 
--- behind the header and the prefix; 0 where the command has no run
-abbrev pub runStart : Record → ℕ
-runStart r = pick (carriesRun (r .command)) (7 + length (fieldList (r .command) (r .fields .«has_pattern»))) 0
-
 -- read: the numbers. Refused: document 01's number and details, and 0 behind them
 abbrev pub readAnswer : Outcome Record → List ℕ → ReadAnswer
-readAnswer (gives r) bytes = numbersOf (r .device) (r .command) (r .fields) (runStart r) (length (runIn r bytes))
+readAnswer (gives r) bytes = numbersOf (r .device) (r .command) (r .fields) (placeIn r) (length (runIn r bytes))
 readAnswer (refused n values) bytes =
     record {
       number = n;
