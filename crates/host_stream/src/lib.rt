@@ -23,7 +23,7 @@ pub extern "C" fn dm_capacity() -> u64
 pub extern "C" fn dm_fresh(state: &mut [u8]) -> Answer
     ensures { λ r. ⌜ Sends (stateWrite fresh (now (state .entry))) r (now (state .entry)) (now (state .exit)) ⌝ }
 {
-    if state.len() != STATE_LEN {
+    if state.len() != decoder_bytes::STATE_LEN {
         return boundary::refused(Refusal::BadStore);
     }
     decoder_bytes::put_state(Decoder::new(), state);
