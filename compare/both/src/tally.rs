@@ -19,7 +19,7 @@ pub struct Difference {
 }
 
 /// Differences of a word that are made shorter though a shorter one is known.
-const TRIED: u64 = 100;
+const TRIED: u64 = 8;
 
 fn measure(request: &Request) -> (usize, usize) {
     let bytes = request.clone().bytes_mut().map_or(0, |bytes| bytes.len());
@@ -129,6 +129,14 @@ impl Tally {
     /// A record is passed over only where the original cannot say, the word allows it, the engine gave one of the numbers that the
     /// original has no test for, and its buffer is as it was.
     fn verdict(&mut self, request: &Request) -> Verdict {
+        let alike = match request {
+            Request::Feed(bytes) => Some(self.same_reports(None, bytes)),
+            Request::Chunks { sizes, bytes } => Some(self.same_reports(Some(sizes), bytes)),
+            _ => None,
+        };
+        if let Some(alike) = alike {
+            return if alike { Verdict::Alike } else { Verdict::Different };
+        }
         let lent = request.lent().unwrap_or_default();
         let [ours, theirs] =
             [(&mut self.engine as &mut dyn Bench, &mut self.ours), (self.original.as_mut(), &mut self.theirs)].map(|(bench, out)| {
