@@ -16,7 +16,7 @@ ORIGINAL := the comparison with the original Rust (DEEPMIND_SRC names its source
 need = { .ci/need $(1); case $$? in 0) ;; 1) exit 0 ;; *) exit 1 ;; esac; }
 need_sources = $(call need,"$(ORIGINAL)" "$(SOURCES)/deepmind-midi")
 
-.PHONY: check test kit layout outside lib bench compare compare-all host test-rust test-host
+.PHONY: check test kit layout outside lib bench compare compare-all host test-rust test-host record recorded monitor test-monitor
 
 check: kit
 	@rt check
@@ -77,4 +77,35 @@ test-host: lib
 	@$(call need,"the tests of the header and the C host" gcc); mkdir -p target/host-test && examples/test-host $(LIBRARY) target/host-test
 
 # The tests that stand outside Rattle.
-outside: test-rust compare test-host
+outside: test-rust compare test-host recorded test-monitor
+
+# The programs: the recorded answers of the original (crates/replay), and the monitor (crates/monitor).
+
+# Writes the recorded answers again, and altered ones that the replay must tell apart.
+record:
+	@$(call need,"recording" cargo cc); $(need_sources); \
+	$(CARGO) build $(IN_COMPARE) -p origin && \
+	target/compare/release/record > crates/replay/data/answers && \
+	target/compare/release/record altered > crates/replay/data/altered
+
+# Recording again gives the same files.
+recorded:
+	@$(call need,"recording again" cargo cc); $(need_sources); \
+	$(CARGO) build $(IN_COMPARE) -p origin && \
+	target/compare/release/record | cmp - crates/replay/data/answers && \
+	target/compare/release/record altered | cmp - crates/replay/data/altered
+
+# The monitor, at target/bin/monitor.
+target/bin/monitor: $(shell find crates crates.txt -type f)
+	@mkdir -p target
+	@rt check monitor > target/monitor.log 2>&1 || { tail -n 40 target/monitor.log >&2; exit 1; }
+
+# The monitor over a sample: make monitor SAMPLE=FILE.
+SAMPLE ?= examples/pulled.syx
+
+monitor: kit target/bin/monitor
+	@target/bin/monitor $(SAMPLE)
+
+# What is said to words on the command line, which rt ci gives in one way only.
+test-monitor: kit target/bin/monitor
+	@crates/monitor/test-words target/bin/monitor
