@@ -1,4 +1,4 @@
-# The two commands: `make check` proves what has changed, `make test` is the whole gate from nothing.
+# The two commands: `make monitor` shows a sample in words, `make test` is the whole gate from nothing.
 # `make test` first runs the tests that stand outside Rattle, stops at the first failure, and ends with `rt ci`,
 # whose last line is 'N passed, M failed'. What needs Rust, a C compiler, valgrind or the original's sources is skipped aloud
 # where they are missing; with CI=true they must be there.
