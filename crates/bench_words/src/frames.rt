@@ -2,7 +2,7 @@
 use crate::line;
 use crate::said;
 use ids::DeviceId;
-use message::Fields;
+use fields::Fields;
 use message::Frame;
 use message::FrameAnswer;
 use refusal::Count;

@@ -21,8 +21,8 @@ use Rattle.packed.specs.Packed.{packedLength}
 use Rattle.framing.specs.declared.MaybeByte.the-variants as m
 use Rattle.framing.specs.Framing.{framed, body, firstHigh, whenSevenBit, sameBytes}
 use Rattle.framing.proofs.Bytes.{same-is, no-high}
-use Rattle.message.specs.declared.Fields.{Fields}
-use Rattle.message.specs.Wire.{carriesRun, optional, fieldList, fieldsAt, fieldFits, fieldRefusal, fieldOk, allFit, checked}
+use Rattle.fields.specs.declared.Fields.{Fields}
+use Rattle.fields.specs.Wire.{carriesRun, optional, fieldList, fieldsAt, fieldFits, fieldRefusal, fieldOk, allFit, checked}
 use Rattle.frame_reader.specs.declared.Record.{Record}
 use Rattle.frame_reader.specs.Reader.{accepted, numberedBy, prefixLength, early, isAny, whenRun, readFields, readShort, readRun, readDump, readPayload, payload, maker, readCommand, readHeader, readRecord}
 

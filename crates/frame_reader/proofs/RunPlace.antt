@@ -14,8 +14,8 @@ use Rattle.command.specs.declared.Command.{Command}
 use Rattle.command.specs.declared.Command.the-variants as k
 use Rattle.command.specs.Payload as y
 use Rattle.command.specs.Payload.{payloadOf}
-use Rattle.message.specs.declared.Fields.{Fields}
-use Rattle.message.specs.Wire.{optional, fieldList}
+use Rattle.fields.specs.declared.Fields.{Fields}
+use Rattle.fields.specs.Wire.{optional, fieldList}
 use Rattle.frame_reader.specs.declared.Record.{Record}
 use Rattle.frame_reader.specs.Reader.{numberedBy, prefixLength, payload}
 use Rattle.frame_reader.proofs.Tests.{numbered-short}

@@ -22,8 +22,8 @@ use Rattle.packed.specs.Packed.{unpackedLength, unpackedLengthOf, packedLength}
 use Rattle.packed.proofs.Lengths.{unpacked-given}
 use Rattle.laws.proofs.Tests.{both}
 use Rattle.framing.specs.Framing.{framed, body}
-use Rattle.message.specs.Wire.{carriesRun, optional, fieldsAt, fieldOk, smallChecked}
-use Rattle.message.proofs.ByKind.{checked-by-kind, version-first}
+use Rattle.fields.specs.Wire.{carriesRun, optional, fieldsAt, fieldOk, smallChecked}
+use Rattle.fields.proofs.ByKind.{checked-by-kind, version-first}
 use Rattle.frame_reader.specs.Reader.{accepted, numberedBy, prefixLength, early, wrongLength, readFields, isAny, versionIn, readRun, payload}
 
 -- lengths that do not unpack are not accepted

@@ -16,10 +16,10 @@ use Rattle.command.specs.Payload as y
 use Rattle.command.specs.Payload.{Run, payloadOf, rawLengthFor}
 use Rattle.packed.specs.Packed.{packedLength, unpackedLength}
 use Rattle.framing.specs.Framing.{whenFramed, whenSevenBit, body, sameBytes}
-use Rattle.message.specs.declared.Fields.{Fields}
+use Rattle.fields.specs.declared.Fields.{Fields}
 use Rattle.message.specs.declared.head.Frame.{Frame}
 use Rattle.message.specs.Head.{headFrom}
-use Rattle.message.specs.Wire.{carriesRun, optional, fieldList, fieldsAt, fieldOk, checked}
+use Rattle.fields.specs.Wire.{carriesRun, optional, fieldList, fieldsAt, fieldOk, checked}
 use Rattle.frame_reader.specs.declared.Record.{Record}
 use Rattle.frame_reader.specs.declared.RecordAnswer.{RecordAnswer}
 use Rattle.frame_reader.specs.declared.RecordAnswer.the-variants as ra

@@ -5,7 +5,7 @@ ghost use mathlib.Core.List.{[], _∷_};
 ghost use Prim.Native.Nat.{_≤_};
 ghost use lib.ListN.{length, getD};
 ghost use Rattle.refusal.specs.Outcome.{gives};
-ghost use Rattle.message.specs.Wire.{carriesRun, fieldsAt, fieldsTold};
+ghost use Rattle.fields.specs.Wire.{carriesRun, fieldsAt, fieldsTold};
 ghost use Rattle.message.specs.Head.{frameTold};
 ghost use Rattle.frame_reader.specs.Reader.{accepted, numberedBy, early, prefixLength, readShort, readDump, readRun, versionIn, readPayload, readHeader, readRecord, recordTold, parsed, RunLent};
 use command::Command;
@@ -14,8 +14,8 @@ use ids::DeviceAnswer;
 use ids::DeviceId;
 use ids::ProtocolVersion;
 use ids::VersionAnswer;
-use message::Fields;
-use message::FieldsAnswer;
+use fields::Fields;
+use fields::FieldsAnswer;
 use message::Frame;
 use message::FrameAnswer;
 use message::Head;
@@ -85,7 +85,7 @@ fn front(command: Command, payload: &[u8], numbered: bool) -> Fields
     let d = framing::byte_at(payload, 2);
     let e = framing::byte_at(payload, 3);
     let f = framing::byte_at(payload, 4);
-    message::payload::fields_at(command, a, b, d, e, f, numbered)
+    fields::payload::fields_at(command, a, b, d, e, f, numbered)
 }
 
 // A payload without a run: its length, 7, then its fields.
@@ -102,7 +102,7 @@ fn read_short(command: Command, payload: &[u8]) -> FieldsAnswer
             found,
         });
     }
-    message::payload::check_small(front(command, payload, false))
+    fields::payload::check_small(front(command, payload, false))
 }
 
 // A dump behind its version: further prefix 7, run length 7 or 13, then the other fields.
@@ -124,16 +124,16 @@ fn read_run(command: Command, version: ProtocolVersion, payload: &[u8]) -> Field
     if code == 0x12 {
         return match packed::unpacked_len(run_len) {
             Count::Err(e) => FieldsAnswer::Err(e),
-            Count::Ok(_) => message::payload::check_small(front(command, payload, false)),
+            Count::Ok(_) => fields::payload::check_small(front(command, payload, false)),
         };
     }
     let raw_len = command::raw_len(command, version);
     if holds(run_len, raw_len) {
-        return message::payload::check_small(front(command, payload, false));
+        return fields::payload::check_small(front(command, payload, false));
     }
     if code == 0x08 {
         if is_numbered(found) {
-            return message::payload::check_small(front(command, payload, true));
+            return fields::payload::check_small(front(command, payload, true));
         }
     }
     let expected = prefix + packed::PACKED_GROUP * ((raw_len + 6) / packed::RAW_GROUP);
@@ -165,7 +165,7 @@ fn read_dump(command: Command, payload: &[u8]) -> FieldsAnswer
 fn read_payload(command: Command, payload: &[u8]) -> FieldsAnswer
     ensures { λ r. ⌜ fieldsTold r ≡ readPayload command (now (payload .entry)) ⌝ }
 {
-    if message::payload::carries_run(command) {
+    if fields::payload::carries_run(command) {
         return read_dump(command, payload);
     }
     read_short(command, payload)
@@ -248,10 +248,10 @@ pub fn run_of(bytes: &[u8]) -> &[u8]
         RecordAnswer::Ok(record) => {
             let command = record.command;
             let fields = record.fields;
-            if !message::payload::carries_run(command) {
+            if !fields::payload::carries_run(command) {
                 return &bytes[0..0];
             }
-            let start = 7 + message::payload::prefix_of(command, fields).len;
+            let start = 7 + fields::payload::prefix_of(command, fields).len;
             let end = bytes.len() - 1;
             &bytes[start..end]
         }

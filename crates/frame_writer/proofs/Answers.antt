@@ -17,8 +17,8 @@ use Rattle.ids.specs.declared.DeviceId.{DeviceId}
 use Rattle.ids.specs.Device.{deviceByte}
 use Rattle.command.specs.declared.Command.{Command}
 use Rattle.command.specs.Command.{codeOf}
-use Rattle.message.specs.declared.Fields.{Fields}
-use Rattle.message.specs.Wire.{carriesRun, prefixOf, checkedFields}
+use Rattle.fields.specs.declared.Fields.{Fields}
+use Rattle.fields.specs.Wire.{carriesRun, prefixOf, checkedFields}
 use Rattle.framing.specs.declared.MaybeByte.the-variants as m
 use Rattle.framing.specs.Framing.{firstHigh}
 use Rattle.frame_writer.specs.Writer.{row, ownRun, lengthFor, sevenBitWrite, roomWrite, fieldsWrite}

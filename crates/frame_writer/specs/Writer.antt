@@ -11,11 +11,11 @@ use Rattle.ids.specs.Device.{deviceByte, deviceInRange}
 use Rattle.command.specs.declared.Command.{Command}
 use Rattle.command.specs.Command.{codeOf, commandOf}
 use Rattle.framing.specs.Framing.{whenSevenBit}
-use Rattle.message.specs.declared.Fields.{Fields}
+use Rattle.fields.specs.declared.Fields.{Fields}
 use Rattle.message.specs.declared.head.Head.{Head}
 use Rattle.message.specs.declared.head.Frame.{Frame}
 use Rattle.message.specs.Head.{commandOfHead, fieldsOf}
-use Rattle.message.specs.Wire.{carriesRun, prefixOf, checkedFields}
+use Rattle.fields.specs.Wire.{carriesRun, prefixOf, checkedFields}
 
 -- "Row: F0 00 20 32 20, device, command, payload, F7"
 abbrev pub header : ℕ → ℕ → List ℕ

@@ -10,8 +10,8 @@ use command::Command;
 use command::CommandAnswer;
 use framing::MaybeByte;
 use ids::DeviceId;
-use message::Fields;
-use message::FieldsAnswer;
+use fields::Fields;
+use fields::FieldsAnswer;
 use message::Frame;
 use message::Head;
 use refusal::Count;
@@ -28,7 +28,7 @@ fn frame_len(command: Command, prefix_len: usize, run_len: usize) -> Count
     ensures { λ r. ⌜ counted r ≡ lengthFor command «prefix_len» «run_len» ⌝ }
 {
     let fixed = OVERHEAD_LEN + prefix_len;
-    if !message::payload::carries_run(command) {
+    if !fields::payload::carries_run(command) {
         return Count::Ok(fixed);
     }
     if 0xFFFF_FFFF_FFFF_FFFF - fixed < run_len {
@@ -42,7 +42,7 @@ pub fn encoded_len(head: Head, run_len: usize) -> Count
     ensures { λ r. ⌜ counted r ≡ headLength head «run_len» ⌝ }
 {
     let command = head.command();
-    let prefix = message::payload::prefix_of(command, head.to_fields());
+    let prefix = fields::payload::prefix_of(command, head.to_fields());
     frame_len(command, prefix.len, run_len)
 }
 
@@ -118,10 +118,10 @@ fn write_fields(
 ) -> Count
     ensures { λ r. ⌜ Writes (fieldsWrite device command fields (now (run .entry)) (length (now (out .entry)))) r (now (out .entry)) (now (out .exit)) ⌝ }
 {
-    match message::payload::check(command, fields) {
+    match fields::payload::check(command, fields) {
         FieldsAnswer::Err(e) => Count::Err(e),
         FieldsAnswer::Ok(_) => {
-            let prefix = message::payload::prefix_of(command, fields);
+            let prefix = fields::payload::prefix_of(command, fields);
             let len = prefix.len;
             match frame_len(command, len, run.len()) {
                 Count::Err(e) => Count::Err(e),
@@ -131,7 +131,7 @@ fn write_fields(
                         return Count::Err(Refusal::BufferTooSmall { needed, available });
                     }
                     let bytes = prefix.bytes;
-                    if !message::payload::carries_run(command) {
+                    if !fields::payload::carries_run(command) {
                         return put_seven_bit(device, command, &bytes[..len], &run[..0], out);
                     }
                     put_seven_bit(device, command, &bytes[..len], run, out)

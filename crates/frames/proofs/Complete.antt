@@ -18,8 +18,8 @@ use Rattle.command.specs.Payload as y
 use Rattle.command.specs.Payload.{payloadOf, rawLengthFor}
 use Rattle.packed.specs.Packed.{packedLength}
 use Rattle.framing.specs.Framing.{sameBytes}
-use Rattle.message.specs.declared.Fields.{Fields}
-use Rattle.message.specs.Wire.{carriesRun, optional, fieldList, fieldsAt, allFit}
+use Rattle.fields.specs.declared.Fields.{Fields}
+use Rattle.fields.specs.Wire.{carriesRun, optional, fieldList, fieldsAt, allFit}
 use Rattle.frame_reader.specs.declared.Record.{Record}
 use Rattle.frame_reader.specs.Reader.{accepted, numberedBy, prefixLength, early, isAny, whenRun, versionIn, readFields, readShort, readRun, readDump, readPayload, payload, maker, readRecord}
 use Rattle.frame_reader.proofs.Accepted.{Payload, Described, runFits, described, fit-given}

@@ -15,12 +15,12 @@ use Rattle.command.specs.declared.Command.{Command}
 use Rattle.command.specs.declared.Command.the-variants as k
 use Rattle.command.specs.Payload as y
 use Rattle.command.proofs.Table.{code-reads-back}
-use Rattle.message.specs.declared.Fields.{Fields}
+use Rattle.fields.specs.declared.Fields.{Fields}
 use Rattle.message.specs.declared.head.Frame.{Frame}
-use Rattle.message.specs.Interface.{interfaceAt, interfaceByte}
-use Rattle.message.specs.Fields.{notifyFields}
+use Rattle.interface.specs.Interface.{interfaceAt, interfaceByte}
+use Rattle.fields.specs.Fields.{notifyFields}
 use Rattle.message.specs.Head.{commandOfHead, fieldsOf, headFrom}
-use Rattle.message.specs.Wire.{fieldList, fieldsAt, allFit}
+use Rattle.fields.specs.Wire.{fieldList, fieldsAt, allFit}
 use Rattle.frame_reader.specs.declared.Record.{Record}
 use Rattle.frame_reader.specs.Reader.{numberedBy, payload, readRecord, frameOf, parsed, runOf}
 use Rattle.frame_reader.proofs.Accepted.{Described, described}

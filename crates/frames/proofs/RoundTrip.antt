@@ -23,8 +23,8 @@ use Rattle.command.proofs.Table.{read-code, code-reads-back}
 use Rattle.framing.specs.declared.MaybeByte.the-variants as m
 use Rattle.framing.specs.Framing.{body, firstHigh}
 use Rattle.framing.proofs.Bytes.{spelled, high-none-behind}
-use Rattle.message.specs.declared.Fields.{Fields}
-use Rattle.message.specs.Wire.{carriesRun, fieldList, fieldsAt, wire, prefixOf, allFit, fieldFits, checkedFields}
+use Rattle.fields.specs.declared.Fields.{Fields}
+use Rattle.fields.specs.Wire.{carriesRun, fieldList, fieldsAt, wire, prefixOf, allFit, fieldFits, checkedFields}
 use Rattle.frame_reader.specs.declared.Record.{Record}
 use Rattle.frame_reader.specs.Reader.{numberedBy, prefixLength, payload, maker, readRecord, runIn, runOf}
 use Rattle.frame_reader.proofs.Accepted.{Described, described, fit-given}

@@ -7,7 +7,7 @@ use Rattle.refusal.specs.Outcome.{Outcome, gives, refused, andThen}
 use Rattle.ids.specs.declared.DeviceId.{DeviceId}
 use Rattle.command.specs.declared.Command.{Command}
 use Rattle.command.specs.Command.{codeOf, commandOf}
-use Rattle.message.specs.declared.Fields.{Fields}
+use Rattle.fields.specs.declared.Fields.{Fields}
 use Rattle.message.specs.Head.{headFrom}
 use Rattle.frame_reader.specs.declared.Record.{Record}
 use Rattle.frame_reader.specs.Reader.{runIn, placeIn}

@@ -5,7 +5,7 @@ ghost use Rattle.ids.specs.Small.{bankOf, programOf, patternOf, versionOf, prog
 ghost use Rattle.ids.specs.Device.{deviceOf, deviceByte};
 ghost use Rattle.command.specs.Command.{commandOf, codeOf};
 ghost use Rattle.wire.specs.Channel.{channelOf};
-ghost use Rattle.message.specs.Interface.{interfaceOf, interfaceByte};
+ghost use Rattle.interface.specs.Interface.{interfaceOf, interfaceByte};
 ghost use Rattle.boundary.specs.Answer.{answerOf};
 use boundary::Answer;
 
@@ -93,8 +93,8 @@ pub extern "C" fn dm_command(byte: u8) -> Answer
 pub extern "C" fn dm_interface(byte: u8) -> Answer
     ensures { λ r. ⌜ r ≡ answerOf (andThen (interfaceOf byte) (λ x. gives (interfaceByte x))) ⌝ }
 {
-    match message::Interface::from_byte(byte) {
-        message::InterfaceAnswer::Ok(interface) => boundary::done(interface.to_byte() as u64),
-        message::InterfaceAnswer::Err(e) => boundary::refused(e),
+    match interface::Interface::from_byte(byte) {
+        interface::InterfaceAnswer::Ok(interface) => boundary::done(interface.to_byte() as u64),
+        interface::InterfaceAnswer::Err(e) => boundary::refused(e),
     }
 }

@@ -1,1 +1,1 @@
-pub mod ByKind
+pub mod Versions

@@ -1,4 +1,1 @@
-pub mod Interface
-pub mod Fields
-pub mod Wire
 pub mod Head

@@ -1,23 +1,23 @@
 // The 22 messages, as records with the types of their fields.
 ghost use mathlib.Core.Path.{_≡_};
 ghost use Rattle.message.specs.Head.{patternAt, commandOfHead, fieldsOf, headFrom, versionOfHead, recordFrame, frameTold};
-use crate::Fields;
-use crate::dump_fields;
-use crate::free_fields;
-use crate::interface::Interface;
-use crate::notify_fields;
-use crate::pattern_fields;
-use crate::payload::FieldsAnswer;
-use crate::payload::carries_run;
-use crate::payload::check;
-use crate::request_fields;
 use command::Command;
 use command::CommandAnswer;
+use fields::Fields;
+use fields::FieldsAnswer;
+use fields::dump_fields;
+use fields::free_fields;
+use fields::notify_fields;
+use fields::pattern_fields;
+use fields::payload::carries_run;
+use fields::payload::check;
+use fields::request_fields;
 use ids::Bank;
 use ids::DeviceId;
 use ids::PatternNumber;
 use ids::ProgramNumber;
 use ids::ProtocolVersion;
+use interface::Interface;
 use refusal::Refusal;
 
 // The number of a stored pattern; the one being edited has none.

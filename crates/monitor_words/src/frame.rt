@@ -5,7 +5,7 @@ use ids::DeviceId;
 use inquiry::Identity;
 use inquiry::IdentityAnswer;
 use inquiry::Version;
-use message::Fields;
+use fields::Fields;
 use message::Frame;
 use message::FrameAnswer;
 use refusal::Refusal;

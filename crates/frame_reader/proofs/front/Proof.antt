@@ -1,5 +1,5 @@
 -- `front` meets its contract: the first five bytes tell all fields.
-use Rattle.message.proofs.ByKind.{fields-five}
+use Rattle.fields.proofs.ByKind.{fields-five}
 use mathlib.Core.Path.{_∙_}
 use borrow.Author.Needs.{needs}
 use Rattle.frame_reader.proofs.front.Statement.{statement}

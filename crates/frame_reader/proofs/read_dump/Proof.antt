@@ -1,6 +1,6 @@
 -- `read_dump` meets its contract: what has to be there, then the version, then the rest.
 use Rattle.frame_reader.proofs.Tests.{early-one}
-use Rattle.message.proofs.ByKind.{version-refused, version-passed}
+use Rattle.fields.proofs.ByKind.{version-refused, version-passed}
 use Rattle.frame_reader.specs.Reader.{prefixLength, early, readRun}
 use Rattle.ids.proofs.Range.{version-in-range}
 use Rattle.ids.specs.Small.{versionTold}

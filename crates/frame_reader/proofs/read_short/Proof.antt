@@ -1,5 +1,5 @@
 -- `read_short` meets its contract: length, then fields.
-use Rattle.message.specs.Wire.{smallChecked}
+use Rattle.fields.specs.Wire.{smallChecked}
 use Rattle.frame_reader.proofs.Tests.{fields-untested}
 use Rattle.frame_reader.specs.Reader.{prefixLength}
 use Rattle.command.specs.declared.Row.{Row}

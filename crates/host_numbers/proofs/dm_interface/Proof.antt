@@ -1,6 +1,6 @@
 -- `dm_interface` meets its contract: it answers what the call below it answered.
 use Rattle.boundary.proofs.Answers.{number-told, refusal-told}
-use Rattle.message.specs.Interface.{interfaceTold, interfaceOf, interfaceByte}
+use Rattle.interface.specs.Interface.{interfaceTold, interfaceOf, interfaceByte}
 use mathlib.Core.Path.{ap, sym, _∙_}
 use borrow.Author.Needs.{needs}
 use Rattle.host_numbers.proofs.dm_interface.Statement.{statement}

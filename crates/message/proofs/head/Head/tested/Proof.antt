@@ -1,6 +1,6 @@
 -- `Head::tested` meets its contract, command by command.
 use mathlib.Core.Path.{ap}
-use Rattle.message.specs.declared.interface.Interface.{Interface}
+use Rattle.interface.specs.declared.Interface.{Interface}
 use Rattle.message.specs.declared.head.MaybePattern.{MaybePattern}
 use Rattle.message.specs.declared.head.Head.the-variants as h
 use borrow.Author.Needs.{needs}
