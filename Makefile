@@ -16,7 +16,7 @@ ORIGINAL := the comparison with the original Rust (DEEPMIND_SRC names its source
 need = { .ci/need $(1); case $$? in 0) ;; 1) exit 0 ;; *) exit 1 ;; esac; }
 need_sources = $(call need,"$(ORIGINAL)" "$(SOURCES)/deepmind-midi")
 
-.PHONY: check test kit layout outside lib bench compare compare-all host test-rust test-host record recorded monitor test-monitor
+.PHONY: check test kit layout outside lib bench compare compare-all benchmark host test-rust test-host record recorded monitor test-monitor
 
 check: kit
 	@rt check
@@ -62,6 +62,14 @@ compare: bench
 compare-all: bench
 	@$(call need,"$(ORIGINAL)" cargo cc); $(need_sources); target/compare/release/compare
 
+# Times the engine beside the original, a line a workload, in some minutes; writes docs/BENCHMARK.md and docs/benchmark.svg. Every function of
+# both starts at a cache line, so that a time does not hang on what is linked beside it.
+benchmark: lib
+	@$(call need,"the benchmark beside the original Rust (DEEPMIND_SRC names its sources)" cargo cc objcopy "$(SOURCES)/deepmind-midi"); \
+	mkdir -p target/benchmark && objcopy --set-section-alignment '.text.*=64' $(LIBRARY) target/benchmark/$(notdir $(LIBRARY)) && \
+	ENGINE_LIB=$(abspath target/benchmark) RUSTFLAGS="-D warnings -C llvm-args=-align-all-functions=6" \
+	cargo build $(subst target/compare,target/benchmark,$(IN_COMPARE)) -p benchmark && target/benchmark/release/benchmark docs
+
 # The C host, at target/host.
 host: lib
 	@$(call need,"the C host" gcc); rm -rf target/host && \
@@ -71,7 +79,7 @@ host: lib
 test-rust: lib
 	@$(call need,"the tests in Rust" cargo cc); \
 	$(CARGO) test $(IN_COMPARE) -p words -p header -p engine && \
-	$(need_sources) && $(CARGO) test $(IN_COMPARE) -p origin -p both
+	$(need_sources) && $(CARGO) test $(IN_COMPARE) -p origin -p both -p benchmark
 
 test-host: lib
 	@$(call need,"the tests of the header and the C host" gcc); mkdir -p target/host-test && examples/test-host $(LIBRARY) target/host-test

@@ -3,7 +3,7 @@
 mod frames;
 mod identity;
 mod numbers;
-mod random;
+pub mod random;
 pub mod rows;
 mod streams;
 mod tally;

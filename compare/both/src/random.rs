@@ -2,7 +2,15 @@
 
 pub struct Numbers(u64);
 
+impl Default for Numbers {
+    fn default() -> Self {
+        Self::new()
+    }
+}
+
 impl Numbers {
+    /// From the start.
+    #[must_use]
     pub fn new() -> Self {
         Self(0x9E37_79B9_7F4A_7C15)
     }

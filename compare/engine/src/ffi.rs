@@ -159,7 +159,8 @@ mod c {
     }
 }
 
-/// Safe functions over the entry points: numbers go as they are, a slice as its pointer and length.
+/// Safe functions over the entry points: numbers go as they are, a slice as its pointer and length. They are inlined, so that a caller's call is
+/// the entry point's own.
 macro_rules! safe {
     ($($(#[$note:meta])* fn $name:ident $entry:ident($($rest:tt)*) -> $answer:ty;)*) => {
         $(safe! { @one [$(#[$note])*] $name $entry $answer [] [] $($rest)* })*
@@ -176,6 +177,7 @@ macro_rules! safe {
     (@one [$(#[$note:meta])*] $name:ident $entry:ident $answer:ty [$($given:tt)*] [$($passed:tt)*]) => {
         $(#[$note])*
         #[must_use]
+        #[inline]
         pub fn $name($($given)*) -> $answer {
             // SAFETY: each slice is valid for the call and apart from the others, and the entry point keeps no pointer.
             unsafe { c::$entry($($passed)*) }
