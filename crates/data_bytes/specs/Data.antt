@@ -1,0 +1,31 @@
+-- How far data bytes go.
+use mathlib.Core.List.{List, [], _∷_}
+use Prim.Native.Nat.{ℕ, suc, _+_, _*_, _/_}
+use lib.Dec.{ltb}
+use lib.ListN.{getD}
+use Rattle.laws.specs.Choice.{pick}
+
+-- how many data bytes (00 to 7F) stand ahead of the first other byte
+unfoldable pub dataRun : List ℕ → ℕ
+dataRun [] = 0
+dataRun (b ∷ bs) = pick (ltb b 0x80) (suc (dataRun bs)) 0
+
+-- eight bytes as one number, the first lowest
+abbrev pub word : ℕ → ℕ → ℕ → ℕ → ℕ → ℕ → ℕ → ℕ → ℕ
+word a b c d e f g h =
+    a + b * 0x100 + c * 0x1_0000 + d * 0x100_0000 + e * 0x1_0000_0000 + f * 0x100_0000_0000 + g * 0x1_0000_0000_0000
+    + h * 0x100_0000_0000_0000
+
+-- their top bits, each where it stands in that number
+abbrev pub topBits : ℕ → ℕ → ℕ → ℕ → ℕ → ℕ → ℕ → ℕ → ℕ
+topBits a b c d e f g h =
+    a / 128 * 0x80 + b / 128 * 0x8000 + c / 128 * 0x80_0000 + d / 128 * 0x8000_0000 + e / 128 * 0x80_0000_0000
+    + f / 128 * 0x8000_0000_0000
+    + g / 128 * 0x80_0000_0000_0000
+    + h / 128 * 0x8000_0000_0000_0000
+
+-- those of the eight bytes from a place on
+abbrev pub topBitsAt : List ℕ → ℕ → ℕ
+topBitsAt l i =
+    topBits (getD l i 0) (getD l (i + 1) 0) (getD l (i + 2) 0) (getD l (i + 3) 0) (getD l (i + 4) 0) (getD l (i + 5) 0) (getD l (i + 6) 0)
+    (getD l (i + 7) 0)
