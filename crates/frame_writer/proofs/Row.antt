@@ -1,27 +1,11 @@
 -- A frame is put together from the front: the header, then the prefix into what is left of the buffer, then the run, then F7.
 use mathlib.Core.Path.{_≡_, ap, ap₂, sym, _∙_}
 use mathlib.Core.List.{List, [], _∷_, _++_, append-assoc, append-nil}
-use Prim.Native.Nat.{ℕ, suc, _+_, _-_, _≤_, _<_}
-use native.Mathlib.Numerals.{add-one}
+use Prim.Native.Nat.{ℕ, suc, _+_, _-_, _≤_}
 use native.Mathlib.Omega.{arith}
-use lib.ListN.{length, getD, take, drop, set, length-append, length-take, length-drop, drop-of-length-le}
+use lib.ListN.{length, getD, take, drop, set, length-append, length-drop, drop-of-length-le}
 use borrow.Rule.Slice.PartMut.{putMid}
-use lib.Seq.{drop-cons, drop-drop, set-at, take-suc, take-at, take-all, append-snoc, length-take-le, drop-at}
-
--- one byte more is copied
-pub copy-more : (from to : List ℕ) (i : ℕ) → i < length from → length from ≤ length to
-    → set (take i from ++ drop i to) i (getD from i 0) ≡ take (i + 1) from ++ drop (i + 1) to
-copy-more from to i h room =
-    rw (add-one i, drop-cons to i 0 (omega arith), set-at (take i from) (getD to i 0) (drop (suc i) to) (getD from i 0) i (length-take-le i from (omega arith)), take-suc from i 0 h)
-    (sym (append-snoc (take i from) (getD from i 0) (drop (suc i) to)))
-
-pub copy-length : (from to : List ℕ) (i : ℕ) → i ≤ length from → length from ≤ length to → length (take i from ++ drop i to) ≡ length to
-copy-length from to i h room = simp (length-append, length-take, length-drop) (omega arith)
-
-pub copy-all : (from to : List ℕ) (i : ℕ) → i ≤ length from → length from ≤ i → take i from ++ drop i to ≡ from ++ drop (length from) to
-copy-all from to i h g =
-    let e : i ≡ length from = omega arith in
-    rw (e, take-all (length from) from (omega arith))
+use lib.Seq.{drop-cons, drop-drop, set-at, take-at, take-all, append-snoc, drop-at}
 
 sum : (a b d : ℕ) → a + (b + d) ≡ a + b + d
 sum a b d = omega arith

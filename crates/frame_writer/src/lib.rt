@@ -8,10 +8,10 @@ ghost use Rattle.refusal.specs.Outcome.{Writes, counted};
 ghost use Rattle.frame_writer.specs.Writer.{lengthFor, headLength, header, row, frameWrite, recordWrite, fieldsWrite, sevenBitWrite};
 use command::Command;
 use command::CommandAnswer;
-use framing::MaybeByte;
-use ids::DeviceId;
 use fields::Fields;
 use fields::FieldsAnswer;
+use framing::MaybeByte;
+use ids::DeviceId;
 use message::Frame;
 use message::Head;
 use refusal::Count;
@@ -46,18 +46,6 @@ pub fn encoded_len(head: Head, run_len: usize) -> Count
     frame_len(command, prefix.len, run_len)
 }
 
-// Copies bytes to the front of a buffer that has the room.
-fn copy_into(from: &[u8], to: &mut [u8])
-    requires { ⌜ length (now from) ≤ length (now to) ⌝ }
-    ensures { λ _. ⌜ now (to .exit) ≡ now (from .entry) ++ drop (length (now (from .entry))) (now (to .entry)) ⌝ }
-{
-    let mut i: usize = 0;
-    while i < from.len() {
-        to[i] = from[i];
-        i += 1;
-    }
-}
-
 // F0, the maker, the model, the device and the command.
 fn put_header(device: u8, code: u8, out: &mut [u8])
     requires { ⌜ 7 ≤ length (now out) ⌝ }
@@ -78,9 +66,9 @@ fn put_frame(device: u8, code: u8, prefix: &[u8], run: &[u8], out: &mut [u8])
     ensures { λ _. ⌜ now (out .exit) ≡ row device code (now (prefix .entry)) (now (run .entry)) ++ drop (8 + (length (now (prefix .entry)) + length (now (run .entry)))) (now (out .entry)) ⌝ }
 {
     put_header(device, code, out);
-    copy_into(prefix, &mut out[7..]);
+    data_bytes::copy_into(prefix, &mut out[7..]);
     let at = 7 + prefix.len();
-    copy_into(run, &mut out[at..]);
+    data_bytes::copy_into(run, &mut out[at..]);
     let end = at + run.len();
     out[end] = framing::SYSEX_END;
 }

@@ -13,21 +13,24 @@ use Rattle.laws.specs.Choice.{pick}
 use Rattle.laws.specs.Tabulate.{tab}
 use Rattle.laws.proofs.Tabulate.{length-tab, getD-tab}
 use Rattle.laws.proofs.Tests.{both}
+use Rattle.data_bytes.specs.Data.{dataRun}
+use Rattle.data_bytes.proofs.Runs.{run-none, by-byte}
 use Rattle.refusal.specs.Outcome.{Outcome, gives}
 use Rattle.refusal.proofs.Given.{given-not-refused}
 use Rattle.framing.specs.declared.MaybeByte.{MaybeByte}
 use Rattle.framing.specs.declared.MaybeByte.the-variants as m
 use Rattle.framing.specs.Framing.{firstHigh, unlessHigh, sameBytes}
 
--- the first high byte
-pub high-here : (l : List ℕ) (i : ℕ) → i < length l → 0x80 ≤ getD l i 0 → firstHigh (drop i l) ≡ m.Some (getD l i 0)
-high-here l i h high = rw (drop-cons l i 0 h, le-ltb (getD l i 0) 0x80 high)
+-- the first high byte stands right behind the run of data bytes
+pub high-behind : (l : List ℕ) → dataRun l < length l → firstHigh l ≡ m.Some (getD l (dataRun l) 0)
+high-behind [] h = absurd (omega (arith, run-none, h))
+high-behind (b ∷ l) h =
+    by-byte b l (λ low e. rw (e, lt-ltb b 0x80 low) (high-behind l (omega (arith, e, h)))) (λ high e. rw (e, le-ltb b 0x80 high))
 
-pub high-later : (l : List ℕ) (i : ℕ) → i < length l → getD l i 0 < 0x80 → firstHigh (drop i l) ≡ firstHigh (drop (i + 1) l)
-high-later l i h low = rw (add-one i, drop-cons l i 0 h, lt-ltb (getD l i 0) 0x80 low)
-
-pub high-none : (l : List ℕ) (i : ℕ) → length l ≤ i → firstHigh (drop i l) ≡ m.None
-high-none l i h = rw (drop-of-length-le l {i = i} h)
+pub high-nowhere : (l : List ℕ) → length l ≤ dataRun l → firstHigh l ≡ m.None
+high-nowhere [] h = refl
+high-nowhere (b ∷ l) h =
+    by-byte b l (λ low e. rw (lt-ltb b 0x80 low) (high-nowhere l (omega (arith, e, h)))) (λ _ e. absurd (omega (arith, e, h)))
 
 -- of two lists one behind the other
 pub high-append : (l k : List ℕ) → firstHigh l ≡ m.None → firstHigh (l ++ k) ≡ firstHigh k

@@ -33,13 +33,10 @@ pub fn is_framed(bytes: &[u8]) -> bool
 pub fn first_high(bytes: &[u8]) -> MaybeByte
     ensures { λ r. ⌜ r ≡ firstHigh (now (bytes .entry)) ⌝ }
 {
-    let mut i: usize = 0;
-    while i < bytes.len() {
-        let byte = bytes[i];
-        if 0x80 <= byte {
-            return MaybeByte::Some(byte);
-        }
-        i += 1;
+    let run = data_bytes::data_run(bytes);
+    if run < bytes.len() {
+        let byte = bytes[run];
+        return MaybeByte::Some(byte);
     }
     MaybeByte::None
 }

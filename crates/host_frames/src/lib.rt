@@ -14,9 +14,9 @@ ghost use Rattle.host_frames.specs.Frames.{numbersOf, readAnswer, fields
 use boundary::Answer;
 use command::Command;
 use command::CommandAnswer;
+use fields::Fields;
 use frame_reader::RecordAnswer;
 use ids::DeviceId;
-use fields::Fields;
 use message::Head;
 use refusal::Refusal;
 

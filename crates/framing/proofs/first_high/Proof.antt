@@ -1,56 +1,31 @@
--- `first_high` meets its contract: what is left to look at decides.
-use Rattle.framing.proofs.Bytes.{high-here, high-later, high-none}
-use Rattle.framing.specs.Framing.{firstHigh}
+-- `first_high` meets its contract: the byte right behind the run of data bytes, where there is one.
+use Rattle.framing.proofs.Bytes.{high-behind, high-nowhere}
+use Rattle.framing.specs.declared.MaybeByte.the-variants as m
+use Rattle.data_bytes.specs.Data.{dataRun}
 use native.Mathlib.Omega.{arith}
-use lib.ListN.{length, drop}
-use Prim.Native.Nat.{_≤_, _-_}
-use mathlib.Core.Path.{_≡_, refl, sym, _∙_}
+use lib.ListN.{length, getD}
+use Prim.Native.Nat.{ℕ, _≤_, _<_}
+use mathlib.Core.Path.{_≡_, ap, sym, _∙_}
+use borrow.Author.Needs.{needs}
 use Rattle.framing.proofs.first_high.Statement.{statement}
 use Rattle.framing.proofs.first_high.Tie as tie
 
-abbrev Inv-loop : tie.InvT-loop
-Inv-loop bytes i₀ i = (i ≤ length bytes) × (firstHigh bytes ≡ firstHigh (drop i bytes))
+data-run-requires : tie.Need-data-run-requires
+data-run-requires c κs = search needs
 
-abbrev μ-loop : tie.MeasureT-loop
-μ-loop bytes i₀ i = length bytes - i
+shared-slice-read-byte : tie.Need-shared-slice-read-byte
+shared-slice-read-byte c = search needs
 
-loop-holds : tie.Need-loop-holds Inv-loop μ-loop
-loop-holds c = (omega arith, refl)
-
-shared-slice-read-byte : tie.Need-shared-slice-read-byte Inv-loop μ-loop
-shared-slice-read-byte c = omega arith
-
-returns : tie.Need-returns Inv-loop μ-loop
+returns : tie.Need-returns
 returns c = let b = c .before .before .before .before .args .bytes .now in
-    let l = c .before .before .before .loop in
-    sym (l .inv .1 ∙ high-here b (l .i) (c .before .before .loop-test .taken) (c .if1 .taken))
+    let run = c .before .before .data-run in
+    let within : dataRun b < length b = omega (arith, run .ensures, c .before .if1 .taken) in
+    ap (λ (i : ℕ). m.Some (getD b i 0)) (run .ensures) ∙ sym (high-behind b within)
 
-add-i : tie.Need-add-i Inv-loop μ-loop
-add-i c = omega arith
-
-loop-less : tie.Need-loop-less Inv-loop μ-loop
-loop-less c = omega arith
-
-loop-again : tie.Need-loop-again Inv-loop μ-loop
-loop-again c = let b = c .before .before .before .before .args .bytes .now in
-    let l = c .before .before .before .loop in
-    (omega arith, l .inv .1 ∙ high-later b (l .i) (c .before .before .loop-test .taken) (c .if1 .left))
-
-returns-2 : tie.Need-returns-2 Inv-loop μ-loop
-returns-2 c = let b = c .before .before .args .bytes .now in
-    let l = c .before .loop in
-    sym (l .inv .1 ∙ high-none b (l .i) (c .loop-test .left))
+returns-2 : tie.Need-returns-2
+returns-2 c = let b = c .before .before .before .args .bytes .now in
+    let all : length b ≤ dataRun b = omega (arith, c .before .data-run .ensures, c .if1 .left) in
+    sym (high-nowhere b all)
 
 pub first-high-spec : {M : Type 1} → statement M
-first-high-spec =
-    tie.close
-    (tie.spec
-    Inv-loop
-    μ-loop
-    loop-holds
-    shared-slice-read-byte
-    returns
-    add-i
-    loop-less
-    loop-again
-    returns-2)
+first-high-spec = tie.close (tie.spec data-run-requires shared-slice-read-byte returns returns-2)
