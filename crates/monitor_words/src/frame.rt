@@ -1,11 +1,11 @@
 // Frames, identity requests and replies, and why a frame is refused.
 use crate::then;
+use fields::Fields;
 use ids::DeviceAnswer;
 use ids::DeviceId;
 use inquiry::Identity;
 use inquiry::IdentityAnswer;
 use inquiry::Version;
-use fields::Fields;
 use message::Frame;
 use message::FrameAnswer;
 use refusal::Refusal;
