@@ -5,9 +5,12 @@ use Rattle.laws.specs.Choice.{pick}
 use Rattle.ids.specs.declared.DeviceId.{DeviceId}
 use Rattle.ids.specs.declared.DeviceId.the-variants as d
 
+-- the device that the two numbers name: everyone above 0 is everyone (the entry points ask for 0 or 1 first), else the unit, in range or
+-- not
 abbrev pub deviceFrom : ℕ → ℕ → DeviceId
 deviceFrom everyone unit = pick (eqb everyone 0) (d.Unit unit) d.Broadcast
 
+-- and back: 1 for everyone, 0 for a unit
 abbrev pub everyoneOf : DeviceId → ℕ
 everyoneOf (d.Unit n) = 0
 everyoneOf d.Broadcast = 1

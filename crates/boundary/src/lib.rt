@@ -23,6 +23,7 @@ pub struct Answer {
 // The answer's number for a kind that no record names.
 pub const NO_RECORD: u64 = 255;
 
+// Done, with a value.
 pub fn done(value: u64) -> Answer
     ensures { λ r. ⌜ r ≡ answerOf (gives value) ⌝ }
 {
@@ -36,6 +37,7 @@ pub fn done(value: u64) -> Answer
     }
 }
 
+// A number that is not 0, with its details.
 pub fn told(number: u64, detail0: u64, detail1: u64, detail2: u64, detail3: u64) -> Answer
     ensures { λ r. ⌜ r ≡ (record { number = number; value = 0; detail0 = detail0; detail1 = detail1; detail2 = detail2; detail3 = detail3 }) ⌝ }
 {
@@ -49,6 +51,7 @@ pub fn told(number: u64, detail0: u64, detail1: u64, detail2: u64, detail3: u64)
     }
 }
 
+// No record names what was asked.
 pub fn no_record() -> Answer
     ensures { λ r. ⌜ r ≡ noRecord ⌝ }
 {

@@ -46,6 +46,7 @@ abbrev pub among : List Command → ℕ → Outcome Command
 among [] b = refused 6 (b ∷ [])
 among (k ∷ ks) b = pick (eqb b (codeOf k)) (gives k) (among ks b)
 
+-- the command of a byte: "Twenty-two codes"; 6 with the byte for every other
 abbrev pub commandOf : ℕ → Outcome Command
 commandOf b = among commands b
 

@@ -26,6 +26,7 @@ pub data Run : Type 0 where
   fixed : ℕ → Run
   any : Run
 
+-- a payload: its bytes in wire order, then its run
 pub record Payload : Type 0 where
   pub fields : List Field
   pub run : Run
@@ -84,6 +85,7 @@ runLength programData v = programDataLength v
 runLength (fixed n) v = n
 runLength any v = 0
 
+-- the same for a command: how many raw bytes its run holds in a version
 abbrev pub rawLengthFor : Command → ℕ → ℕ
 rawLengthFor k v = runLength (payloadOf k .run) v
 

@@ -35,6 +35,7 @@ abbrev pub usedBy : Outcome Fed → Outcome ℕ
 usedBy (gives f) = gives (f .used)
 usedBy (refused n values) = refused n values
 
+-- the same as a number: "What a call did not use is handed in again", and a refused call "uses and reports nothing"
 abbrev pub countOf : Outcome ℕ → ℕ
 countOf (gives n) = n
 countOf (refused n values) = 0
@@ -75,6 +76,7 @@ abbrev pub stateAfter : Decoder → List ℕ → Decoder
 stateAfter d [] = d
 stateAfter d (b ∷ bs) = stateAfter (step d b .state) bs
 
+-- the store behind them: "fills as if bytes came singly"
 abbrev pub storeAfter : Decoder → List ℕ → List ℕ → List ℕ
 storeAfter d store [] = store
 storeAfter d store (b ∷ bs) = storeAfter (step d b .state) (stored d store b) bs
@@ -84,6 +86,7 @@ abbrev pub total : List (Outcome ℕ) → ℕ
 total [] = 0
 total (a ∷ rest) = countOf a + total rest
 
+-- does a byte report nothing?
 abbrev pub isNone : List Told → Bool
 isNone [] = true
 isNone (x ∷ xs) = false

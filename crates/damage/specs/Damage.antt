@@ -12,6 +12,7 @@ use Rattle.damage.specs.Sent.{Tag, bytes, intacts}
 abbrev pub before : ℕ → List Tag → List Tag
 before i sent = take i sent
 
+-- the bytes after the run
 abbrev pub behind : ℕ → ℕ → List Tag → List Tag
 behind i n sent = drop (i + n) sent
 

@@ -29,9 +29,11 @@ use Rattle.damage.specs.Open.{lastStatus, dataSince, isOpen}
 abbrev pub Told : Type 0
 Told = Outcome Event
 
+-- report 18, which carries no value
 abbrev pub interrupted : Told
 interrupted = refused 18 []
 
+-- report 19 "with the frame limit"
 abbrev pub tooLong : Told
 tooLong = refused 19 (limit ∷ [])
 
@@ -39,14 +41,18 @@ tooLong = refused 19 (limit ∷ [])
 abbrev pub interruption : Bool → List Told
 interruption broken = pick broken (interrupted ∷ []) []
 
+-- "a real-time byte other than F9 and FD reports itself"
 abbrev pub heardRealtime : MaybeRealtime → List Told
 heardRealtime (t.Some x) = gives (realtime x) ∷ []
 heardRealtime t.None = []
 
+-- a whole system common message reports itself; a status that no record names reports nothing
 abbrev pub heardCommon : MaybeSystemCommon → List Told
 heardCommon (g.Some x) = gives (common x) ∷ []
 heardCommon g.None = []
 
+-- a whole channel message, on the channel that the status byte's low four bits name; where the status is no channel status, a system
+-- common one
 abbrev pub heardMessage : MaybeChannelMessage → ℕ → ℕ → ℕ → List Told
 heardMessage (c.Some x) status first second = gives (channel (record { 0 = status % 16 }) x) ∷ []
 heardMessage c.None status first second = heardCommon (commonMessage status first second)
@@ -85,6 +91,7 @@ heardIn k.End status bytes b =
     []
 heardIn k.Realtime status bytes b = heardRealtime (realtimeOf b)
 
+-- the same for any byte: its class is found first
 unfoldable pub heard : ℕ → List ℕ → ℕ → List Told
 heard status bytes b = heardIn (classOf b) status bytes b
 

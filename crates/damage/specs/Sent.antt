@@ -27,6 +27,7 @@ bytesOf (Voice c m) = channelBytes c m
 bytesOf (Common m) = commonBytes m
 bytesOf (Frame xs) = 0xF0 ∷ xs ++ (0xF7 ∷ [])
 
+-- "then any bytes 00 to 7F": what a frame in range has between F0 and F7
 abbrev pub sevenBit : List ℕ → Bool
 sevenBit [] = true
 sevenBit (x ∷ xs) = ltb x 0x80 && sevenBit xs
@@ -41,6 +42,7 @@ inRange (Frame xs) = sevenBit xs
 abbrev pub sendable : Message → Bool
 sendable m = inRange m && leb (length (bytesOf m)) limit
 
+-- every message of a list is one of condition 3's; an empty list is allowed
 abbrev pub allSendable : List Message → Bool
 allSendable [] = true
 allSendable (m ∷ ms) = sendable m && allSendable ms
@@ -63,9 +65,11 @@ tags first e [] = []
 tags first e (b ∷ []) = record { byte = b; first = first; intact = gives e ∷ [] } ∷ []
 tags first e (b ∷ c ∷ bs) = record { byte = b; first = first; intact = [] } ∷ tags false e (c ∷ bs)
 
+-- a message's bytes, the first marked as such, with their intact reports
 abbrev pub tagged : Message → List Tag
 tagged m = tags true (eventOf m) (bytesOf m)
 
+-- a list of messages, one behind the other
 abbrev pub allTagged : List Message → List Tag
 allTagged [] = []
 allTagged (m ∷ ms) = tagged m ++ allTagged ms
@@ -80,8 +84,10 @@ pub data Sent : List Tag → List Tag → Type 0 where
   own : {t : Tag} {ts us : List Tag} → Sent ts us → Sent (t ∷ ts) (t ∷ us)
   between : (b : ℕ) {ts us : List Tag} → 0xF8 ≤ b → Sent ts us → Sent ts (realtimeTag b ∷ us)
 
+-- the bytes alone, as they go over the wire
 abbrev pub bytes : List Tag → List ℕ
 bytes ts = map (λ (t : Tag). t .byte) ts
 
+-- the intact reports alone, byte by byte
 abbrev pub intacts : List Tag → List (List Told)
 intacts ts = map (λ (t : Tag). t .intact) ts

@@ -22,6 +22,7 @@ pub record Walked : Type 0 where
   pub fed : Fed
   pub store : List ℕ
 
+-- is there a report of the byte's own, besides 18?
 abbrev pub someReport : MaybeReport → Bool
 someReport m.None = false
 someReport (m.Some x) = true
@@ -57,6 +58,7 @@ pub record Walks (w : Walked) (fed : Fed) (afterwards : List ℕ) : Type 0 where
 abbrev pub ready : Decoder → List ℕ → Bool
 ready d store = leb limit (length store) && sound d
 
+-- a call: refused with 20 and no values, or the walk over its bytes, also where there are none
 abbrev pub call : Decoder → List ℕ → List ℕ → Outcome Walked
 call d store bytes = unless (ready d store) 20 [] (gives (walk d store bytes))
 
@@ -70,6 +72,7 @@ abbrev pub storeOf : Outcome Walked → List ℕ → List ℕ
 storeOf (gives w) store = w .store
 storeOf (refused n values) store = store
 
+-- the code's answer in document 01's terms
 abbrev pub answered : FeedAnswer → Outcome Fed
 answered (a.Ok f) = gives f
 answered (a.Err e) = refusal e

@@ -30,6 +30,7 @@ told store (r.Realtime x) = gives (realtime x)
 told store r.SysExInterrupted = refusal e.SysExInterrupted
 told store (r.SysExTooLong n) = refusal (e.SysExTooLong n)
 
+-- the byte's own report, if any, as a list
 abbrev pub ownReport : MaybeReport → List Report
 ownReport m.None = []
 ownReport (m.Some x) = x ∷ []
@@ -39,5 +40,6 @@ abbrev pub reportList : Bool → MaybeReport → List Report
 reportList true x = r.SysExInterrupted ∷ ownReport x
 reportList false x = ownReport x
 
+-- the same for a list of reports, all read over one store
 abbrev pub toldAll : List ℕ → List Report → List (Outcome Event)
 toldAll store xs = map (told store) xs

@@ -64,10 +64,13 @@ kept b = pick (isChannelStatus b) (s.Status b) s.None
 abbrev pub completed : ℕ → ℕ → ℕ → Decoder
 completed b first second = record { in_sysex = false; len = 0; status = kept b; have = 0; data0 = first; data1 = second }
 
+-- a system common message is reported as itself; where no record names the status, nothing is
 abbrev pub commonReport : MaybeSystemCommon → MaybeReport
 commonReport (g.Some x) = m.Some (r.Common x)
 commonReport g.None = m.None
 
+-- a channel message is reported with its channel, the status byte's low four bits; where the status is no channel status, it may be a
+-- common one
 abbrev pub orCommon : MaybeChannelMessage → ℕ → ℕ → ℕ → MaybeReport
 orCommon (c.Some x) s first second = m.Some (r.Channel (record { 0 = s % 16 }) x)
 orCommon c.None s first second = commonReport (commonMessage s first second)
@@ -76,6 +79,7 @@ orCommon c.None s first second = commonReport (commonMessage s first second)
 unfoldable pub messageReport : ℕ → ℕ → ℕ → MaybeReport
 messageReport s first second = orCommon (channelMessage s first second) s first second
 
+-- "F9 and FD report nothing", every other real-time byte itself
 abbrev pub realtimeReport : MaybeRealtime → MaybeReport
 realtimeReport (t.Some x) = m.Some (r.Realtime x)
 realtimeReport t.None = m.None
@@ -84,6 +88,7 @@ realtimeReport t.None = m.None
 abbrev pub silent : Decoder → Stepped
 silent d = record { state = d; interrupted = false; report = m.None }
 
+-- one report, and no frame broken off
 abbrev pub reporting : Decoder → Report → Stepped
 reporting d x = record { state = d; interrupted = false; report = m.Some x }
 
@@ -116,6 +121,7 @@ stepIn k.End d b =
     pick (d .in_sysex) (pick (ltb (d .len) limit) (reporting (cleared d) (r.SysEx (d .len + 1))) (tooLong d)) (silent (cleared d))
 stepIn k.Realtime d b = record { state = d; interrupted = false; report = realtimeReport (realtimeOf b) }
 
+-- one byte, by its class
 unfoldable pub step : Decoder → ℕ → Stepped
 step d b = stepIn (classOf b) d b
 
@@ -129,5 +135,6 @@ storedIn k.Tune d store b = store
 storedIn k.End d store b = pick (d .in_sysex && ltb (d .len) limit) (set store (d .len) b) store
 storedIn k.Realtime d store b = store
 
+-- the store after one byte, by its class
 unfoldable pub stored : Decoder → List ℕ → ℕ → List ℕ
 stored d store b = storedIn (classOf b) d store b

@@ -23,6 +23,7 @@ reportKind (r.Realtime x) = 4
 reportKind r.SysExInterrupted = 18
 reportKind (r.SysExTooLong n) = 19
 
+-- a system common message's status byte: F1, F2, F3 or F6
 abbrev pub commonStatusOf : SystemCommon → ℕ
 commonStatusOf (y.TimeCodeQuarterFrame v) = 0xF1
 commonStatusOf (y.SongPosition p) = 0xF2
@@ -38,6 +39,7 @@ reportStatus (r.Realtime x) = realtimeByte x
 reportStatus r.SysExInterrupted = 0
 reportStatus (r.SysExTooLong n) = 0
 
+-- a channel message's first number: its first data byte, or a bend whole
 abbrev pub messageFirst : ChannelMessage → ℕ
 messageFirst (m.NoteOff k v) = k
 messageFirst (m.NoteOn k v) = k
@@ -47,6 +49,7 @@ messageFirst (m.ProgramChange p) = p
 messageFirst (m.ChannelPressure p) = p
 messageFirst (m.PitchBend v) = v
 
+-- its second data byte; 0 where it has none, and for a bend
 abbrev pub messageSecond : ChannelMessage → ℕ
 messageSecond (m.NoteOff k v) = v
 messageSecond (m.NoteOn k v) = v
@@ -56,6 +59,7 @@ messageSecond (m.ProgramChange p) = 0
 messageSecond (m.ChannelPressure p) = 0
 messageSecond (m.PitchBend v) = 0
 
+-- a system common message's value or position; 0 for a tune request
 abbrev pub commonValue : SystemCommon → ℕ
 commonValue (y.TimeCodeQuarterFrame v) = v
 commonValue (y.SongPosition p) = p
@@ -71,6 +75,7 @@ reportFirst (r.Realtime x) = 0
 reportFirst r.SysExInterrupted = 0
 reportFirst (r.SysExTooLong n) = n
 
+-- its second number: a channel message's second data byte, else 0
 abbrev pub reportSecond : Report → ℕ
 reportSecond (r.Channel c x) = messageSecond x
 reportSecond (r.SysEx n) = 0

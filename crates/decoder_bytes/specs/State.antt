@@ -15,6 +15,7 @@ abbrev pub statusFlag : RunningStatus → ℕ
 statusFlag s.None = 0
 statusFlag (s.Status b) = 1
 
+-- the status byte itself; a status 00, which is unsound, is told from none by the flag
 abbrev pub statusByte : RunningStatus → ℕ
 statusByte s.None = 0
 statusByte (s.Status b) = b
@@ -39,6 +40,7 @@ stateLength bytes =
     (getD bytes 1 0 + 256 * getD bytes 2 0 + 65_536 * getD bytes 3 0 + 16_777_216 * getD bytes 4 0)
     + 4_294_967_296 * (getD bytes 5 0 + 256 * getD bytes 6 0 + 65_536 * getD bytes 7 0 + 16_777_216 * getD bytes 8 0)
 
+-- and back: a status where the flag is 1
 abbrev pub statusOf : ℕ → ℕ → RunningStatus
 statusOf given b = pick (eqb given 1) (s.Status b) s.None
 

@@ -20,6 +20,7 @@ abbrev pub stateOf : Outcome Walked → Decoder → Decoder
 stateOf (gives w) d = w .fed .state
 stateOf (refused n values) d = d
 
+-- the code's answer in document 01's terms
 abbrev pub taken : TakeAnswer → Outcome Taken
 taken (a.Ok t) = gives t
 taken (a.Err e) = refusal e

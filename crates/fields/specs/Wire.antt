@@ -22,6 +22,7 @@ isRun y.programData = true
 isRun (y.fixed n) = true
 isRun y.any = true
 
+-- does a command's message carry a run? The table says so by the word "run"
 abbrev pub carriesRun : Command → Bool
 carriesRun k = isRun (payloadOf k .run)
 
@@ -69,6 +70,7 @@ fieldsIn l has p = record {
   tx = valueOf y.transmit l p 0;
 }
 
+-- the fields of a command's payload; the flag for a pattern's number is set for 08 alone
 abbrev pub fieldsAt : Command → Bool → List ℕ → Fields
 fieldsAt k numbered p = fieldsIn (fieldList k numbered) (optional k && numbered) p
 
@@ -84,6 +86,7 @@ wire first (y.receive ∷ gs) f = f .rx ∷ wire first gs f
 wire first (y.transmit ∷ gs) f = f .tx ∷ wire first gs f
 wire first (y.interface ∷ gs) f = f .interface ∷ wire first gs f
 
+-- the bytes ahead of the run, from the fields that the command has; 08 has the pattern's number where the flag says so
 abbrev pub prefixOf : Command → Fields → List ℕ
 prefixOf k f = wire true (fieldList k (f .«has_pattern»)) f
 
@@ -114,6 +117,7 @@ fieldRefusal y.receive = 0
 fieldRefusal y.transmit = 0
 fieldRefusal y.interface = 12
 
+-- one field tested: its number with the byte where it is out of range
 abbrev pub fieldOk : {A : Type 0} → Field → ℕ → Outcome A → Outcome A
 fieldOk f b next = unless (fieldFits f b) (fieldRefusal f) (b ∷ []) next
 
@@ -141,6 +145,7 @@ smallChecked f =
     (unless (ltb (f .last) 128) 10 (f .last ∷ [])
     (unless (ltb (f .pattern) 32) 11 (f .pattern ∷ []) (gives f)))))
 
+-- the code's answer in document 01's terms
 abbrev pub fieldsTold : FieldsAnswer → Outcome Fields
 fieldsTold (fa.Ok f) = gives f
 fieldsTold (fa.Err e) = refusal e

@@ -24,7 +24,7 @@ pub struct Parsed<'a> {
     pub run: &'a [u8],
 }
 
-// Reads a frame. Refuses 1 to 13 in the reader's order.
+// Reads a frame. Refuses 1 to 9 and 11 to 13 in the reader's order.
 pub fn parse<'a>(bytes: &'a [u8]) -> Parsed<'a>
     ensures { λ r. ⌜ (frameTold (r .answer) ≡ parsed (now (bytes .entry))) × RunLent (bytes .entry) (r .run) ⌝ }
 {

@@ -4,6 +4,7 @@ use mathlib.Core.List.{List, [], _∷_}
 use Prim.Native.Nat.{ℕ}
 use lib.Dec.{leb}
 
+-- the lengths from the first number to the second, both counted
 pub data Stretch : Type 0 where
   lengths : ℕ → ℕ → Stretch
 

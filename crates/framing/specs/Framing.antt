@@ -26,6 +26,7 @@ abbrev pub firstHigh : List ℕ → MaybeByte
 firstHigh [] = m.None
 firstHigh (b ∷ bs) = pick (ltb b 0x80) (firstHigh bs) (m.Some b)
 
+-- a byte that was found is refused
 abbrev pub unlessHigh : {A : Type 0} → MaybeByte → Outcome A → Outcome A
 unlessHigh m.None next = next
 unlessHigh (m.Some b) next = refused 2 (b ∷ [])

@@ -25,6 +25,7 @@ fn eight(a: u8, b: u8, c: u8, d: u8, e: u8, f: u8, g: u8, h: u8) -> u64
     four(a, b, c, d) + 4_294_967_296 * four(e, f, g, h)
 }
 
+// The eight bytes from a place on, as one word.
 fn word_at(bytes: &[u8], at: usize) -> u64
     requires { ⌜ at + 8 ≤ length (now bytes) ⌝ }
     ensures { λ r. ⌜ r ≡ wordIn (now (bytes .entry)) at ⌝ }
@@ -41,6 +42,7 @@ fn word_at(bytes: &[u8], at: usize) -> u64
     )
 }
 
+// A word's eight bytes, to a place.
 fn put_word(word: u64, bytes: &mut [u8], at: usize)
     requires { ⌜ at + 8 ≤ length (now bytes) ⌝ }
     ensures { λ _. ⌜ now (bytes .exit) ≡ window (now (bytes .entry)) at (tab (wordByte word) 8) ⌝ }

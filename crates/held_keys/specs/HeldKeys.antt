@@ -55,6 +55,7 @@ abbrev pub keyTold : KeyAnswer → Outcome ℕ
 keyTold a.Ok = gives 0
 keyTold (a.Err r) = refusal r
 
+-- what the outer call answers: done, or 17 with the channel, whatever the message is
 pub record Told (channel : ℕ) (answer : KeyAnswer) : Type 0 where
   pub answers : keyTold answer ≡ unless (ltb channel 16) 17 (channel ∷ []) (gives 0)
 

@@ -15,6 +15,7 @@ use Rattle.host_damage.specs.Numbers.{toldBy, usedOf}
 abbrev pub reportsOf : FedAnswer → List ℕ → List (List Told)
 reportsOf a store = pick (eqb (a .number) 0) (belonging (a .used) (toldBy a store)) []
 
+-- a call in front of others: its answer, and the store that it was lent as it left it
 abbrev pub withFed : FedAnswer → List ℕ → Heard → Heard
 withFed a store rest = record { answers = usedOf a ∷ rest .answers; reports = reportsOf a store ++ rest .reports }
 

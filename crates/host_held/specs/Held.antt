@@ -32,6 +32,7 @@ abbrev pub kindAnswer : MaybeChannelMessage → ℕ → Answer
 kindAnswer (c.Some message) channel = answerOf (unless (ltb channel 16) 17 (channel ∷ []) (gives 0))
 kindAnswer c.None channel = noRecord
 
+-- 20 first, "tested first, nothing used"
 abbrev pub applyAnswer : List ℕ → MaybeChannelMessage → ℕ → Answer
 applyAnswer bytes kind channel = pick (isRecord bytes) (kindAnswer kind channel) (answerOf (refused 20 []))
 
@@ -40,6 +41,7 @@ abbrev pub kindBytes : List ℕ → MaybeChannelMessage → ℕ → List ℕ
 kindBytes bytes (c.Some message) channel = pick (ltb channel 16) (bytesOf (recordAfter (keysOf bytes) channel message)) bytes
 kindBytes bytes c.None channel = bytes
 
+-- bytes of another length are no record and stay
 abbrev pub applyBytes : List ℕ → MaybeChannelMessage → ℕ → List ℕ
 applyBytes bytes kind channel = pick (isRecord bytes) (kindBytes bytes kind channel) bytes
 
@@ -57,5 +59,6 @@ abbrev pub firstTold : FirstHeld → HeldAnswer
 firstTold (f.Some channel key) = record { number = 0; found = 1; channel = channel; key = key }
 firstTold f.None = record { number = 0; found = 0; channel = 0; key = 0 }
 
+-- the same of the bytes; 20 for another length
 abbrev pub firstIn : List ℕ → HeldAnswer
 firstIn bytes = pick (isRecord bytes) (firstTold (firstHeld (keysOf bytes))) (record { number = 20; found = 0; channel = 0; key = 0 })

@@ -18,22 +18,28 @@ use Rattle.wire.specs.Realtime.{realtimeByte, realtimeWrite}
 use Rattle.boundary.specs.declared.Answer.{Answer}
 use Rattle.boundary.specs.Answer.{answerOf, noRecord, Sends, Unnamed}
 
+-- how many data bytes follow; no record where the byte is no channel status
 abbrev pub lengthAnswer : MaybeLen → Answer
 lengthAnswer (l.Some n) = answerOf (gives n)
 lengthAnswer l.None = noRecord
 
+-- the byte of a real-time message; "no record names F9 or FD", and none a byte below F8
 abbrev pub realtimeAnswer : MaybeRealtime → Answer
 realtimeAnswer (t.Some x) = answerOf (gives (realtimeByte x))
 realtimeAnswer t.None = noRecord
 
+-- a channel message: what its writer does (17, then 14) on a channel given as a plain byte; nothing is written for a kind that no record
+-- names
 abbrev pub ChannelSent : MaybeChannelMessage → ℕ → Answer → List ℕ → List ℕ → Type 0
 ChannelSent (c.Some x) channel answer out later = Sends (channelWrite (record { 0 = channel }) x (length out)) answer out later
 ChannelSent c.None channel answer out later = Unnamed answer out later
 
+-- a system common message: what its writer does (21, then 14); nothing is written for a status that no record names
 abbrev pub CommonSent : MaybeCommonStatus → ℕ → Answer → List ℕ → List ℕ → Type 0
 CommonSent (s.Some x) value answer out later = Sends (commonWrite x value (length out)) answer out later
 CommonSent s.None value answer out later = Unnamed answer out later
 
+-- a real-time message: what its writer does (14); nothing is written for a byte that no record names
 abbrev pub RealtimeSent : MaybeRealtime → Answer → List ℕ → List ℕ → Type 0
 RealtimeSent (t.Some x) answer out later = Sends (realtimeWrite x (length out)) answer out later
 RealtimeSent t.None answer out later = Unnamed answer out later

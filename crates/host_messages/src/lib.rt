@@ -39,6 +39,7 @@ pub extern "C" fn dm_realtime(byte: u8) -> Answer
     }
 }
 
+// Writes a channel message by its status nibble, its channel and its data. NO_RECORD for a nibble that no message has; then refuses 17, 14.
 #[no_mangle]
 pub extern "C" fn dm_channel_write(nibble: u8, channel: u8, a: u16, b: u8, out: &mut [u8]) -> Answer
     ensures { λ r. ⌜ ChannelSent (channelKind nibble a b) channel r (now (out .entry)) (now (out .exit)) ⌝ }
@@ -52,6 +53,7 @@ pub extern "C" fn dm_channel_write(nibble: u8, channel: u8, a: u16, b: u8, out: 
     }
 }
 
+// Writes a system common message by its status byte; a tune request's value is not looked at. NO_RECORD for another byte; then refuses 21, 14.
 #[no_mangle]
 pub extern "C" fn dm_common_write(status: u8, value: u16, out: &mut [u8]) -> Answer
     ensures { λ r. ⌜ CommonSent (commonStatus status) value r (now (out .entry)) (now (out .exit)) ⌝ }
@@ -62,6 +64,7 @@ pub extern "C" fn dm_common_write(status: u8, value: u16, out: &mut [u8]) -> Ans
     }
 }
 
+// Writes a real-time message. NO_RECORD for a byte that is none; then refuses 14.
 #[no_mangle]
 pub extern "C" fn dm_realtime_write(byte: u8, out: &mut [u8]) -> Answer
     ensures { λ r. ⌜ RealtimeSent (realtimeOf byte) r (now (out .entry)) (now (out .exit)) ⌝ }

@@ -9,6 +9,7 @@ ghost use Rattle.interface.specs.Interface.{interfaceOf, interfaceByte};
 ghost use Rattle.boundary.specs.Answer.{answerOf};
 use boundary::Answer;
 
+// 0 to 7. Refuses 9.
 #[no_mangle]
 pub extern "C" fn dm_bank(byte: u8) -> Answer
     ensures { λ r. ⌜ r ≡ answerOf (andThen (bankOf byte) (λ x. gives (x .0))) ⌝ }
@@ -19,6 +20,7 @@ pub extern "C" fn dm_bank(byte: u8) -> Answer
     }
 }
 
+// 0 to 127. Refuses 10.
 #[no_mangle]
 pub extern "C" fn dm_program(byte: u8) -> Answer
     ensures { λ r. ⌜ r ≡ answerOf (andThen (programOf byte) (λ x. gives (x .0))) ⌝ }
@@ -29,6 +31,7 @@ pub extern "C" fn dm_program(byte: u8) -> Answer
     }
 }
 
+// 0 to 31. Refuses 11.
 #[no_mangle]
 pub extern "C" fn dm_pattern(byte: u8) -> Answer
     ensures { λ r. ⌜ r ≡ answerOf (andThen (patternOf byte) (λ x. gives (x .0))) ⌝ }
@@ -39,6 +42,7 @@ pub extern "C" fn dm_pattern(byte: u8) -> Answer
     }
 }
 
+// 6 or 7. Refuses 8.
 #[no_mangle]
 pub extern "C" fn dm_version(byte: u8) -> Answer
     ensures { λ r. ⌜ r ≡ answerOf (andThen (versionOf byte) (λ x. gives (x .0))) ⌝ }
@@ -49,6 +53,7 @@ pub extern "C" fn dm_version(byte: u8) -> Answer
     }
 }
 
+// How many raw bytes a program dump of this version holds. Refuses 8.
 #[no_mangle]
 pub extern "C" fn dm_program_data_len(byte: u8) -> Answer
     ensures { λ r. ⌜ r ≡ answerOf (andThen (versionOf byte) (λ x. gives (programDataLength (x .0)))) ⌝ }
@@ -59,6 +64,7 @@ pub extern "C" fn dm_program_data_len(byte: u8) -> Answer
     }
 }
 
+// 00 to 0F a unit, 7F everyone. Refuses 5.
 #[no_mangle]
 pub extern "C" fn dm_device(byte: u8) -> Answer
     ensures { λ r. ⌜ r ≡ answerOf (andThen (deviceOf byte) (λ x. gives (deviceByte x))) ⌝ }
@@ -69,6 +75,7 @@ pub extern "C" fn dm_device(byte: u8) -> Answer
     }
 }
 
+// 0 to 15. Refuses 17.
 #[no_mangle]
 pub extern "C" fn dm_channel(byte: u8) -> Answer
     ensures { λ r. ⌜ r ≡ answerOf (andThen (channelOf byte) (λ x. gives (x .0))) ⌝ }
@@ -79,6 +86,7 @@ pub extern "C" fn dm_channel(byte: u8) -> Answer
     }
 }
 
+// One of the 22 codes. Refuses 6.
 #[no_mangle]
 pub extern "C" fn dm_command(byte: u8) -> Answer
     ensures { λ r. ⌜ r ≡ answerOf (andThen (commandOf byte) (λ x. gives (codeOf x))) ⌝ }
@@ -89,6 +97,7 @@ pub extern "C" fn dm_command(byte: u8) -> Answer
     }
 }
 
+// 0, 1 or 2. Refuses 12.
 #[no_mangle]
 pub extern "C" fn dm_interface(byte: u8) -> Answer
     ensures { λ r. ⌜ r ≡ answerOf (andThen (interfaceOf byte) (λ x. gives (interfaceByte x))) ⌝ }

@@ -5,6 +5,7 @@ ghost use Rattle.packed.specs.Packed.{packedLengthOf, unpackedLengthOf, packWri
 ghost use Rattle.boundary.specs.Answer.{answerOf, Sends};
 use boundary::Answer;
 
+// How many bytes so many raw bytes take. Refuses 22.
 #[no_mangle]
 pub extern "C" fn dm_packed_len(n: usize) -> Answer
     ensures { λ r. ⌜ r ≡ answerOf (packedLengthOf n) ⌝ }
@@ -12,6 +13,7 @@ pub extern "C" fn dm_packed_len(n: usize) -> Answer
     boundary::count(packed::packed_len(n))
 }
 
+// How many raw bytes a run of so many bytes holds. Refuses 13.
 #[no_mangle]
 pub extern "C" fn dm_unpacked_len(n: usize) -> Answer
     ensures { λ r. ⌜ r ≡ answerOf (unpackedLengthOf n) ⌝ }
@@ -19,6 +21,7 @@ pub extern "C" fn dm_unpacked_len(n: usize) -> Answer
     boundary::count(packed::unpacked_len(n))
 }
 
+// Packs raw into out, the last group filled with 00. Refuses 22, 14.
 #[no_mangle]
 pub extern "C" fn dm_pack(raw: &[u8], out: &mut [u8]) -> Answer
     ensures { λ r. ⌜ Sends (packWrite (now (raw .entry)) (length (now (out .entry)))) r (now (out .entry)) (now (out .exit)) ⌝ }
@@ -26,6 +29,7 @@ pub extern "C" fn dm_pack(raw: &[u8], out: &mut [u8]) -> Answer
     boundary::count(packed::pack_into(raw, out))
 }
 
+// Unpacks run into out; top bits of its data bytes are not looked at. Refuses 13, 14.
 #[no_mangle]
 pub extern "C" fn dm_unpack(run: &[u8], out: &mut [u8]) -> Answer
     ensures { λ r. ⌜ Sends (unpackWrite (now (run .entry)) (length (now (out .entry)))) r (now (out .entry)) (now (out .exit)) ⌝ }

@@ -29,9 +29,11 @@ openOf bytes = unless (isState bytes) 20 [] (gives (flag (stateOf bytes .in_syse
 abbrev pub feedCall : List ℕ → List ℕ → List ℕ → Outcome Walked
 feedCall state store bytes = unless (isState state) 20 [] (call (stateOf state) store bytes)
 
+-- a refused call "uses and reports nothing": 0 in every place but the number
 abbrev pub refusedFeed : ℕ → FedAnswer
 refusedFeed n = record { number = n; used = 0; interrupted = 0; kind = 0; status = 0; first = 0; second = 0 }
 
+-- what a call answers: count and reports in numbers, or the refusal's number (20, which has no details)
 abbrev pub fedAnswer : Outcome Walked → FedAnswer
 fedAnswer (gives w) = numbersOf (w .fed .used) (w .fed .interrupted) (w .fed .report)
 fedAnswer (refused n values) = refusedFeed n

@@ -4,6 +4,7 @@ use Prim.Native.Nat.{ℕ}
 use Rattle.ids.specs.declared.Model.{Model}
 use Rattle.ids.specs.declared.Model.the-variants as m
 
+-- how many voices a model has
 abbrev pub voices : Model → ℕ
 voices m.DeepMind6 = 6
 voices m.DeepMind6X = 6

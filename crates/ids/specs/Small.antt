@@ -44,14 +44,17 @@ abbrev pub bankTold : BankAnswer → Outcome Bank
 bankTold (b.Ok x) = gives x
 bankTold (b.Err e) = refusal e
 
+-- the same for a program number
 abbrev pub programTold : ProgramAnswer → Outcome ProgramNumber
 programTold (p.Ok x) = gives x
 programTold (p.Err e) = refusal e
 
+-- the same for a pattern number
 abbrev pub patternTold : PatternAnswer → Outcome PatternNumber
 patternTold (t.Ok x) = gives x
 patternTold (t.Err e) = refusal e
 
+-- the same for a protocol version
 abbrev pub versionTold : VersionAnswer → Outcome ProtocolVersion
 versionTold (v.Ok x) = gives x
 versionTold (v.Err e) = refusal e

@@ -23,6 +23,7 @@ abbrev pub reportsOf : TakeAnswer → List ℕ → List (List Told)
 reportsOf (a.Ok t) store = belonging (t .used) (toldAll store (reportList (t .interrupted) (t .report)))
 reportsOf (a.Err e) store = []
 
+-- a call in front of others: its answer, and the store that it was lent as it left it
 abbrev pub withTaken : TakeAnswer → List ℕ → Heard → Heard
 withTaken answer store rest = record { answers = usedOf answer ∷ rest .answers; reports = reportsOf answer store ++ rest .reports }
 

@@ -27,6 +27,7 @@ packedOf v = 16 * (v .minor % 8) + v .major % 16
 abbrev pub atLeast : Version → ℕ → ℕ → Bool
 atLeast v major minor = pick (eqb (v .major) major) (leb minor (v .minor)) (ltb major (v .major))
 
+-- just this version
 abbrev pub isVersion : Version → ℕ → ℕ → Bool
 isVersion v major minor = eqb (v .major) major && eqb (v .minor) minor
 
@@ -49,14 +50,17 @@ abbrev pub identityAt : DeviceId → List ℕ → Identity
 identityAt d bytes =
     record { device = d; firmware = versionOf (getD bytes 12 0); voice = record { major = getD bytes 14 0; minor = getD bytes 15 0 } }
 
+-- the same for a reply, whose shape is 16
 abbrev pub readReply : List ℕ → Outcome Identity
 readReply bytes =
     whenFramed bytes (unless (isReply bytes) 16 [] (andThen (deviceOf (getD bytes 2 0)) (λ d. gives (identityAt d bytes))))
 
+-- the code's answer in document 01's terms
 abbrev pub identityTold : IdentityAnswer → Outcome Identity
 identityTold (a.Ok x) = gives x
 identityTold (a.Err e) = refusal e
 
+-- "Request F0 7E device 06 01 F7"
 abbrev pub requestBytes : DeviceId → List ℕ
 requestBytes d = 0xF0 ∷ 0x7E ∷ deviceByte d ∷ 0x06 ∷ 0x01 ∷ 0xF7 ∷ []
 
@@ -69,5 +73,6 @@ replyBytes x =
 abbrev pub requestWrite : DeviceId → ℕ → Outcome (List ℕ)
 requestWrite d room = unless (deviceInRange d) 5 (deviceByte d ∷ []) (withRoom room (requestBytes d))
 
+-- the same for a reply
 abbrev pub replyWrite : Identity → ℕ → Outcome (List ℕ)
 replyWrite x room = unless (deviceInRange (x .device)) 5 (deviceByte (x .device) ∷ []) (withRoom room (replyBytes x))

@@ -17,10 +17,12 @@ interfaceAt b = pick (eqb b 0) i.Midi (pick (eqb b 1) i.Usb i.WiFi)
 abbrev pub interfaceOf : ℕ → Outcome Interface
 interfaceOf b = unless (ltb b 3) 12 (b ∷ []) (gives (interfaceAt b))
 
+-- the code's answer in document 01's terms
 abbrev pub interfaceTold : InterfaceAnswer → Outcome Interface
 interfaceTold (ia.Ok x) = gives x
 interfaceTold (ia.Err e) = refusal e
 
+-- and back: the byte of an interface
 abbrev pub interfaceByte : Interface → ℕ
 interfaceByte i.Midi = 0
 interfaceByte i.Usb = 1

@@ -27,6 +27,7 @@ abbrev pub patternAt : Bool → ℕ → MaybePattern
 patternAt true n = p.Some (record { 0 = n })
 patternAt false n = p.None
 
+-- and back: the fields of a pattern dump, its number 0 where it has none
 abbrev pub patternIn : ℕ → MaybePattern → Fields
 patternIn v (p.Some n) = patternFields v (n .0) true
 patternIn v p.None = patternFields v 0 false
@@ -131,6 +132,7 @@ versionOfHead (h.ChordMemoryDumpResponse a) = v.Some a
 versionOfHead h.PolyChordMemoryDumpRequest = v.None
 versionOfHead (h.PolyChordMemoryDumpResponse a) = v.Some a
 
+-- the code's answer in document 01's terms
 abbrev pub frameTold : FrameAnswer → Outcome Frame
 frameTold (ra.Ok f) = gives f
 frameTold (ra.Err e) = refusal e

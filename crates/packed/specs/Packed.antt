@@ -51,6 +51,7 @@ rawByte run p i = getD run (p + 1 + i) 0 % 128 + 128 * (getD run p 0 / 2 ^ i % 2
 abbrev pub unpackedByte : List ℕ → ℕ → ℕ
 unpackedByte run k = rawByte run (8 * (k / 7)) (k % 7)
 
+-- the raw bytes of a packed run, as many as its length gives; what fills a started group counts as raw
 abbrev pub unpacked : List ℕ → List ℕ
 unpacked run = tab (unpackedByte run) (unpackedLength (length run))
 
@@ -58,5 +59,6 @@ unpacked run = tab (unpackedByte run) (unpackedLength (length run))
 abbrev pub packWrite : List ℕ → ℕ → Outcome (List ℕ)
 packWrite raw room = andThen (packedLengthOf (length raw)) (λ n. withRoom room (packed raw))
 
+-- unpacking: "13, then 14"
 abbrev pub unpackWrite : List ℕ → ℕ → Outcome (List ℕ)
 unpackWrite run room = andThen (unpackedLengthOf (length run)) (λ n. withRoom room (unpacked run))

@@ -17,6 +17,7 @@ use Rattle.wire.specs.declared.channel_message.MaybeChannelMessage.the-v
 abbrev pub channelOf : ℕ → Outcome Channel
 channelOf n = unless (ltb n 16) 17 (n ∷ []) (gives (record { 0 = n }))
 
+-- the code's answer in document 01's terms
 abbrev pub channelTold : ChannelAnswer → Outcome Channel
 channelTold (a.Ok x) = gives x
 channelTold (a.Err e) = refusal e
