@@ -1,15 +1,16 @@
 -- The table's rule, computed over all of its rows: codes rise, each row holds its command's code and payload lengths, and no other
 -- byte is a code.
 use mathlib.Core.Path.{_≡_, refl, ap, sym, _∙_}
-use mathlib.Core.Bool.{Bool, true, false}
+use mathlib.Core.Bool.{Bool, true, false, _&&_}
 use mathlib.Core.List.{List, [], _∷_, map}
 use Prim.Native.Nat.{ℕ, suc, _<_}
 use native.Mathlib.Omega.{arith}
-use lib.Dec.{eqb}
+use lib.Dec.{eqb, ltb}
 use lib.ListN.{getD}
-use borrow.Author.Tests.{eqb-true, ne-eqb}
+use borrow.Author.Tests.{eqb-true, ne-eqb, ltb-true}
 use Rattle.laws.specs.Choice.{pick}
 use Rattle.laws.proofs.Rising.{rises}
+use Rattle.laws.proofs.Tests.{both}
 use Rattle.refusal.specs.Outcome.{gives, refused}
 use Rattle.refusal.proofs.Given.{given-not-refused}
 use Rattle.command.specs.declared.Command.{Command}
@@ -46,30 +47,6 @@ row-there k.PolyChordMemoryDumpResponse d = refl
 pub row-at-place : (k : Command) (n : ℕ) (d : Row) → n ≡ placeOf k → getD table n d ≡ rowOf k
 row-at-place k n d e = ap (λ (m : ℕ). getD table m d) e ∙ row-there k d
 
-pub place-in-table : (k : Command) → placeOf k < 22
-place-in-table k.ControlAppNotifyRequest = omega arith
-place-in-table k.ProgramDumpRequest = omega arith
-place-in-table k.ProgramDumpResponse = omega arith
-place-in-table k.EditBufferDumpRequest = omega arith
-place-in-table k.EditBufferDumpResponse = omega arith
-place-in-table k.GlobalParameterDumpRequest = omega arith
-place-in-table k.GlobalParameterDumpResponse = omega arith
-place-in-table k.SingleUserPatternDumpRequest = omega arith
-place-in-table k.UserPatternDumpResponse = omega arith
-place-in-table k.ProgramBankDumpRequest = omega arith
-place-in-table k.BankProgramNamesDumpRequest = omega arith
-place-in-table k.BankProgramNamesDumpResponse = omega arith
-place-in-table k.SingleProgramNameDumpRequest = omega arith
-place-in-table k.SingleProgramNameDumpResponse = omega arith
-place-in-table k.EditBufferPatternDumpRequest = omega arith
-place-in-table k.ControlAppNotifyResponse = omega arith
-place-in-table k.CalibrationDataDumpRequest = omega arith
-place-in-table k.CalibrationDataDumpResponse = omega arith
-place-in-table k.ChordMemoryDumpRequest = omega arith
-place-in-table k.ChordMemoryDumpResponse = omega arith
-place-in-table k.PolyChordMemoryDumpRequest = omega arith
-place-in-table k.PolyChordMemoryDumpResponse = omega arith
-
 -- codes rise from row to row
 pub codes-rise : (i : ℕ) → suc i < 22 → getD (map codeOf commands) i 0 < getD (map codeOf commands) (suc i) 0
 codes-rise i h = rises (map codeOf commands) i refl h
@@ -98,6 +75,29 @@ code-reads-back k.ChordMemoryDumpRequest = refl
 code-reads-back k.ChordMemoryDumpResponse = refl
 code-reads-back k.PolyChordMemoryDumpRequest = refl
 code-reads-back k.PolyChordMemoryDumpResponse = refl
+
+-- does a test hold of each of some commands?
+abbrev pub ofEach : (Command → Bool) → List Command → Bool
+ofEach test [] = true
+ofEach test (j ∷ js) = test j && ofEach test js
+
+-- a command that was read from some has passed a test that all of these pass
+read-tested : (test : Command → Bool) (ks : List Command) (b : ℕ) (k : Command) → ofEach test ks ≡ true → among ks b ≡ gives k → test k ≡ true
+read-tested test [] b k h e = absurd (given-not-refused k 6 (b ∷ []) e)
+read-tested test (j ∷ js) b k h e = go (eqb b (codeOf j)) (read-tested test js b k (both (test j) (ofEach test js) h .1)) e
+  where
+    go : (t : Bool) → (among js b ≡ gives k → test k ≡ true) → pick t (gives j) (among js b) ≡ gives k → test k ≡ true
+    go true rest g =
+        let same : j ≡ k = cc in
+        ap test (sym same) ∙ both (test j) (ofEach test js) h .0
+    go false rest g = rest g
+
+-- a test that was computed over the whole list holds of every command, since each is read from its code
+pub of-every : (test : Command → Bool) → ofEach test commands ≡ true → (k : Command) → test k ≡ true
+of-every test h k = read-tested test commands (codeOf k) k h (code-reads-back k)
+
+pub place-in-table : (k : Command) → placeOf k < 22
+place-in-table k = ltb-true (placeOf k) 22 (of-every (λ j. ltb (placeOf j) 22) refl k)
 
 -- and a command that was read has the code that was read
 pub read-code : (ks : List Command) (b : ℕ) (k : Command) → among ks b ≡ gives k → codeOf k ≡ b

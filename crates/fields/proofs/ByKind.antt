@@ -5,10 +5,12 @@ use mathlib.Core.Bool.{Bool, true, false, _&&_, _||_}
 use mathlib.Core.List.{List, [], _∷_, _++_}
 use Prim.Native.Nat.{ℕ, zero, suc, _+_, _-_, _≤_, _<_}
 use native.Mathlib.Omega.{arith}
-use lib.Dec.{eqb}
-use lib.ListN.{length, getD, take, replicate, length-append, length-replicate}
+use lib.Dec.{eqb, leb}
+use lib.ListN.{length, getD, take, drop, replicate, length-append, length-replicate}
 use lib.Seq.{take-at}
+use borrow.Author.Tests.{leb-true}
 use Rattle.laws.specs.Choice.{pick}
+use Rattle.laws.proofs.Tests.{true-is-not-false}
 use Rattle.laws.proofs.Zeros.{getD-padded}
 use Rattle.refusal.specs.declared.Refusal.{Refusal}
 use Rattle.refusal.specs.Outcome.{Outcome, gives, refusal}
@@ -19,6 +21,7 @@ use Rattle.command.specs.declared.Command.{Command}
 use Rattle.command.specs.declared.Command.the-variants as k
 use Rattle.command.specs.Payload as y
 use Rattle.command.specs.Payload.{Field}
+use Rattle.command.proofs.Table.{of-every}
 use Rattle.fields.specs.declared.Fields.{Fields}
 use Rattle.fields.specs.Fields.{patternFields}
 use Rattle.fields.specs.Wire.{tag, valueOf, secondOf, optional, fieldList, fieldsIn, fieldsAt, carriesRun, checked, fieldOk, smallChecked, wire, prefixOf, Padded, checkedFields}
@@ -49,29 +52,8 @@ fields-padded k b l z =
 
 -- at most five bytes stand ahead of a run
 pub five-at-most : (k : Command) (b : Bool) → length (fieldList k b) ≤ 5
-five-at-most k.ControlAppNotifyRequest b = omega arith
-five-at-most k.ProgramDumpRequest b = omega arith
-five-at-most k.ProgramDumpResponse b = omega arith
-five-at-most k.EditBufferDumpRequest b = omega arith
-five-at-most k.EditBufferDumpResponse b = omega arith
-five-at-most k.GlobalParameterDumpRequest b = omega arith
-five-at-most k.GlobalParameterDumpResponse b = omega arith
-five-at-most k.SingleUserPatternDumpRequest b = omega arith
-five-at-most k.UserPatternDumpResponse true = omega arith
-five-at-most k.UserPatternDumpResponse false = omega arith
-five-at-most k.ProgramBankDumpRequest b = omega arith
-five-at-most k.BankProgramNamesDumpRequest b = omega arith
-five-at-most k.BankProgramNamesDumpResponse b = omega arith
-five-at-most k.SingleProgramNameDumpRequest b = omega arith
-five-at-most k.SingleProgramNameDumpResponse b = omega arith
-five-at-most k.EditBufferPatternDumpRequest b = omega arith
-five-at-most k.ControlAppNotifyResponse b = omega arith
-five-at-most k.CalibrationDataDumpRequest b = omega arith
-five-at-most k.CalibrationDataDumpResponse b = omega arith
-five-at-most k.ChordMemoryDumpRequest b = omega arith
-five-at-most k.ChordMemoryDumpResponse b = omega arith
-five-at-most k.PolyChordMemoryDumpRequest b = omega arith
-five-at-most k.PolyChordMemoryDumpResponse b = omega arith
+five-at-most k true = leb-true (length (fieldList k true)) 5 (of-every (λ j. leb (length (fieldList j true)) 5) refl k)
+five-at-most k false = leb-true (length (fieldList k false)) 5 (of-every (λ j. leb (length (fieldList j false)) 5) refl k)
 
 -- as many bytes as fields
 pub length-wire : (first : Bool) (l : List Field) (f : Fields) → length (wire first l f) ≡ length l
@@ -106,31 +88,36 @@ pub pattern-at : (a b d e f : ℕ) (has : Bool) → patternFields a b has ≡ fi
 pattern-at a b d e f true = refl
 pattern-at a b d e f false = refl
 
+-- does a list of fields begin with the version?
+versionLeads : List Field → Bool
+versionLeads [] = false
+versionLeads (f ∷ fs) = eqb (tag f) (tag y.version)
+
+-- a number for each kind of field tells it
+version-tagged : (f : Field) → eqb (tag f) (tag y.version) ≡ true → f ≡ y.version
+version-tagged y.version h = refl
+version-tagged y.free h = absurd (true-is-not-false (sym h))
+version-tagged y.bank h = absurd (true-is-not-false (sym h))
+version-tagged y.program h = absurd (true-is-not-false (sym h))
+version-tagged y.pattern h = absurd (true-is-not-false (sym h))
+version-tagged y.receive h = absurd (true-is-not-false (sym h))
+version-tagged y.transmit h = absurd (true-is-not-false (sym h))
+version-tagged y.interface h = absurd (true-is-not-false (sym h))
+
+leading : (l : List Field) → versionLeads l ≡ true → l ≡ y.version ∷ drop 1 l
+unfolding versionLeads
+leading [] h = absurd (true-is-not-false (sym h))
+leading (f ∷ fs) h = ap (λ (g : Field). g ∷ fs) (version-tagged f h)
+
+-- a dump's fields begin with the version
+pub version-leads : (k : Command) (b : Bool) → carriesRun k ≡ true → fieldList k b ≡ y.version ∷ drop 1 (fieldList k b)
+unfolding versionLeads
+version-leads k true h = leading (fieldList k true) (rw h at (of-every (λ j. pick (carriesRun j) (versionLeads (fieldList j true)) true) refl k))
+version-leads k false h = leading (fieldList k false) (rw h at (of-every (λ j. pick (carriesRun j) (versionLeads (fieldList j false)) true) refl k))
+
 -- the version of a dump is its first byte
 pub version-first : (k : Command) (b : Bool) (p : List ℕ) → carriesRun k ≡ true → fieldsAt k b p .version ≡ getD p 0 0
-version-first k.ControlAppNotifyRequest b p h = let z : _≡_ {A = ℕ} 0 1 = cc in absurd (omega arith)
-version-first k.ProgramDumpRequest b p h = let z : _≡_ {A = ℕ} 0 1 = cc in absurd (omega arith)
-version-first k.ProgramDumpResponse b p h = refl
-version-first k.EditBufferDumpRequest b p h = let z : _≡_ {A = ℕ} 0 1 = cc in absurd (omega arith)
-version-first k.EditBufferDumpResponse b p h = refl
-version-first k.GlobalParameterDumpRequest b p h = let z : _≡_ {A = ℕ} 0 1 = cc in absurd (omega arith)
-version-first k.GlobalParameterDumpResponse b p h = refl
-version-first k.SingleUserPatternDumpRequest b p h = let z : _≡_ {A = ℕ} 0 1 = cc in absurd (omega arith)
-version-first k.UserPatternDumpResponse true p h = refl
-version-first k.UserPatternDumpResponse false p h = refl
-version-first k.ProgramBankDumpRequest b p h = let z : _≡_ {A = ℕ} 0 1 = cc in absurd (omega arith)
-version-first k.BankProgramNamesDumpRequest b p h = let z : _≡_ {A = ℕ} 0 1 = cc in absurd (omega arith)
-version-first k.BankProgramNamesDumpResponse b p h = refl
-version-first k.SingleProgramNameDumpRequest b p h = let z : _≡_ {A = ℕ} 0 1 = cc in absurd (omega arith)
-version-first k.SingleProgramNameDumpResponse b p h = refl
-version-first k.EditBufferPatternDumpRequest b p h = let z : _≡_ {A = ℕ} 0 1 = cc in absurd (omega arith)
-version-first k.ControlAppNotifyResponse b p h = let z : _≡_ {A = ℕ} 0 1 = cc in absurd (omega arith)
-version-first k.CalibrationDataDumpRequest b p h = let z : _≡_ {A = ℕ} 0 1 = cc in absurd (omega arith)
-version-first k.CalibrationDataDumpResponse b p h = refl
-version-first k.ChordMemoryDumpRequest b p h = let z : _≡_ {A = ℕ} 0 1 = cc in absurd (omega arith)
-version-first k.ChordMemoryDumpResponse b p h = refl
-version-first k.PolyChordMemoryDumpRequest b p h = let z : _≡_ {A = ℕ} 0 1 = cc in absurd (omega arith)
-version-first k.PolyChordMemoryDumpResponse b p h = refl
+version-first k b p h = rw (version-leads k b h)
 
 -- fields in wire order, and by kind
 pub checked-by-kind : (k : Command) (b : Bool) (p : List ℕ)

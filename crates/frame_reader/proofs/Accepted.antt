@@ -8,15 +8,15 @@ use lib.Dec.{leb, eqb}
 use lib.ListN.{length, getD, take, drop}
 use borrow.Author.Tests.{leb-true, eqb-true}
 use Rattle.laws.specs.Choice.{pick}
-use Rattle.laws.proofs.Tests.{both}
+use Rattle.laws.proofs.Tests.{both, alike, alike-same}
 use Rattle.refusal.specs.Outcome.{Outcome, gives, unless}
 use Rattle.refusal.proofs.Given.{passed, passed-on, given-first}
 use Rattle.ids.specs.Device.{deviceOf}
 use Rattle.command.specs.declared.Command.{Command}
-use Rattle.command.specs.declared.Command.the-variants as k
 use Rattle.command.specs.Command.{codeOf, commandOf}
 use Rattle.command.specs.Payload as y
 use Rattle.command.specs.Payload.{Field, payloadOf, rawLengthFor}
+use Rattle.command.proofs.Table.{of-every}
 use Rattle.packed.specs.Packed.{packedLength}
 use Rattle.framing.specs.declared.MaybeByte.the-variants as m
 use Rattle.framing.specs.Framing.{framed, body, firstHigh, whenSevenBit, sameBytes}
@@ -64,29 +64,8 @@ pub record Described (bytes : List ℕ) (r : Record) : Type 0 where
   pub says : Payload (r .command) (payload bytes) (r .fields)
 
 -- a payload without a run has no pattern number that could be missing
-no-option : (c : Command) → carriesRun c ≡ false → optional c ≡ false
-no-option k.ControlAppNotifyRequest h = refl
-no-option k.ProgramDumpRequest h = refl
-no-option k.ProgramDumpResponse h = refl
-no-option k.EditBufferDumpRequest h = refl
-no-option k.EditBufferDumpResponse h = refl
-no-option k.GlobalParameterDumpRequest h = refl
-no-option k.GlobalParameterDumpResponse h = refl
-no-option k.SingleUserPatternDumpRequest h = refl
-no-option k.UserPatternDumpResponse h = let z : _≡_ {A = ℕ} 0 1 = cc in absurd (omega arith)
-no-option k.ProgramBankDumpRequest h = refl
-no-option k.BankProgramNamesDumpRequest h = refl
-no-option k.BankProgramNamesDumpResponse h = refl
-no-option k.SingleProgramNameDumpRequest h = refl
-no-option k.SingleProgramNameDumpResponse h = refl
-no-option k.EditBufferPatternDumpRequest h = refl
-no-option k.ControlAppNotifyResponse h = refl
-no-option k.CalibrationDataDumpRequest h = refl
-no-option k.CalibrationDataDumpResponse h = refl
-no-option k.ChordMemoryDumpRequest h = refl
-no-option k.ChordMemoryDumpResponse h = refl
-no-option k.PolyChordMemoryDumpRequest h = refl
-no-option k.PolyChordMemoryDumpResponse h = refl
+pub no-option : (c : Command) → carriesRun c ≡ false → optional c ≡ false
+no-option c h = sym (rw h at (alike-same (carriesRun c && optional c) (optional c) (of-every (λ j. alike (carriesRun j && optional j) (optional j)) refl c)))
 
 run-given : (c : Command) (v : ℕ) (p : List ℕ) (next : Outcome Fields) (f : Fields) → whenRun c v p next ≡ gives f
     → (pick (isAny (payloadOf c .run)) (not (eqb ((length p - prefixLength c) % 8) 1)) (accepted (rawLengthFor c v) (length p - prefixLength c) || (optional c && numberedBy (length p))) ≡ true)

@@ -10,15 +10,15 @@ use lib.ListN.{length, take, drop, length-take, length-drop}
 use lib.Seq.{drop-drop, take-nil}
 use borrow.Author.Tests.{ltb-true, ltb-false}
 use Rattle.laws.specs.Choice.{pick}
+use Rattle.laws.proofs.Tests.{both, split}
 use Rattle.command.specs.declared.Command.{Command}
-use Rattle.command.specs.declared.Command.the-variants as k
 use Rattle.command.specs.Payload as y
 use Rattle.command.specs.Payload.{payloadOf}
 use Rattle.fields.specs.declared.Fields.{Fields}
 use Rattle.fields.specs.Wire.{optional, fieldList}
 use Rattle.frame_reader.specs.declared.Record.{Record}
 use Rattle.frame_reader.specs.Reader.{numberedBy, prefixLength, payload}
-use Rattle.frame_reader.proofs.Tests.{numbered-short}
+use Rattle.frame_reader.proofs.Tests.{numbered-short, optional-is}
 use Rattle.frame_reader.proofs.Accepted.{Described}
 
 -- dropping from a part of a list
@@ -43,30 +43,12 @@ numbered-long n h = go (ltb n 2) refl
         absurd (omega arith)
     go false e = ltb-false n 2 e
 
+-- the bytes ahead of a run are there where the prefix is, and two for a pattern dump that names its pattern
 list-long : (c : Command) (b : Bool) (n : ℕ) → (b ≡ true → 2 ≤ n) → prefixLength c ≤ n → length (fieldList c b) ≤ n
-list-long k.ControlAppNotifyRequest b n two h = h
-list-long k.ProgramDumpRequest b n two h = h
-list-long k.ProgramDumpResponse b n two h = h
-list-long k.EditBufferDumpRequest b n two h = h
-list-long k.EditBufferDumpResponse b n two h = h
-list-long k.GlobalParameterDumpRequest b n two h = h
-list-long k.GlobalParameterDumpResponse b n two h = h
-list-long k.SingleUserPatternDumpRequest b n two h = h
-list-long k.UserPatternDumpResponse true n two h = two refl
-list-long k.UserPatternDumpResponse false n two h = h
-list-long k.ProgramBankDumpRequest b n two h = h
-list-long k.BankProgramNamesDumpRequest b n two h = h
-list-long k.BankProgramNamesDumpResponse b n two h = h
-list-long k.SingleProgramNameDumpRequest b n two h = h
-list-long k.SingleProgramNameDumpResponse b n two h = h
-list-long k.EditBufferPatternDumpRequest b n two h = h
-list-long k.ControlAppNotifyResponse b n two h = h
-list-long k.CalibrationDataDumpRequest b n two h = h
-list-long k.CalibrationDataDumpResponse b n two h = h
-list-long k.ChordMemoryDumpRequest b n two h = h
-list-long k.ChordMemoryDumpResponse b n two h = h
-list-long k.PolyChordMemoryDumpRequest b n two h = h
-list-long k.PolyChordMemoryDumpResponse b n two h = h
+list-long c b n two h = split (optional c && b) (λ e. at-pattern (both (optional c) b e)) (λ e. rw e h)
+  where
+    at-pattern : (optional c ≡ true) × (b ≡ true) → length (fieldList c b) ≤ n
+    at-pattern d = rw (optional-is c (d .0), d .1) (two (d .1))
 
 -- the number counts only where it is optional
 pub same-list : (c : Command) (b : Bool) → fieldList c (optional c && b) ≡ fieldList c b

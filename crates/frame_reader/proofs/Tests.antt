@@ -1,12 +1,12 @@
 -- How the reader's tests of a payload come out, return by return: each test that the code made decides the definition's.
-use mathlib.Core.Path.{_≡_, refl, sym, _∙_}
+use mathlib.Core.Path.{_≡_, refl, sym, subst, _∙_}
 use mathlib.Core.Bool.{Bool, true, false, _&&_, _||_, not}
 use mathlib.Core.List.{List, [], _∷_}
 use Prim.Native.Nat.{ℕ, _+_, _-_, _%_, _≤_, _<_}
 use native.Mathlib.Omega.{arith}
 use lib.Dec.{ltb, leb, eqb}
 use lib.ListN.{length, getD, take, drop}
-use borrow.Author.Tests.{le-leb, lt-leb, lt-ltb, le-ltb, eq-eqb, ne-eqb, ltb-true, ltb-false, leb-true}
+use borrow.Author.Tests.{le-leb, lt-leb, lt-ltb, le-ltb, eq-eqb, ne-eqb, eqb-true, ltb-true, ltb-false, leb-true}
 use Rattle.laws.specs.Choice.{pick}
 use Rattle.refusal.specs.declared.Refusal.{Refusal}
 use Rattle.refusal.specs.Refusal.{numberOf, valuesOf}
@@ -16,15 +16,15 @@ use Rattle.command.specs.declared.Command.{Command}
 use Rattle.command.specs.declared.Command.the-variants as k
 use Rattle.command.specs.Command.{codeOf}
 use Rattle.command.specs.Payload as y
-use Rattle.command.specs.Payload.{payloadOf, rawLengthFor}
-use Rattle.ids.specs.Small.{programDataLength}
+use Rattle.command.specs.Payload.{Run, payloadOf, runLength, rawLengthFor}
+use Rattle.command.proofs.Table.{same-code, of-every}
 use Rattle.packed.specs.Packed.{unpackedLength, unpackedLengthOf, packedLength}
 use Rattle.packed.proofs.Lengths.{unpacked-given}
-use Rattle.laws.proofs.Tests.{both}
+use Rattle.laws.proofs.Tests.{both, by-test, split, alike, alike-same}
 use Rattle.framing.specs.Framing.{framed, body}
 use Rattle.fields.specs.Wire.{carriesRun, optional, fieldsAt, fieldOk, smallChecked}
 use Rattle.fields.proofs.ByKind.{checked-by-kind, version-first}
-use Rattle.frame_reader.specs.Reader.{accepted, numberedBy, prefixLength, early, wrongLength, readFields, isAny, versionIn, readRun, payload}
+use Rattle.frame_reader.specs.Reader.{accepted, numberedBy, prefixLength, early, whenLength, readFields, isAny, versionIn, readRun, payload}
 
 -- lengths that do not unpack are not accepted
 pub not-unpacked : (raw n : ℕ) (e : Refusal) → refusal e ≡ unpackedLengthOf n → false ≡ accepted raw n
@@ -69,112 +69,36 @@ fields-tested c b p h = checked-by-kind c b p ∙ go (carriesRun c) refl
 pub fields-untested : (c : Command) (b : Bool) (p : List ℕ) → carriesRun c ≡ false → readFields c b p ≡ smallChecked (fieldsAt c b p)
 fields-untested c b p h = checked-by-kind c b p ∙ rw h
 
+-- the one payload whose number may be missing is the pattern dump's
+pub optional-is : (c : Command) → optional c ≡ true → c ≡ k.UserPatternDumpResponse
+optional-is c e = same-code c k.UserPatternDumpResponse (eqb-true (codeOf c) 0x08 e)
+
 -- a run that is accepted as it stands has no number ahead of it
 pub numbered-off : (c : Command) (v : ℕ) (p : List ℕ) → accepted (rawLengthFor c v) (length p - prefixLength c) ≡ true
     → readFields c (numberedBy (length p)) p ≡ readFields c false p
-numbered-off k.ControlAppNotifyRequest v p h = refl
-numbered-off k.ProgramDumpRequest v p h = refl
-numbered-off k.ProgramDumpResponse v p h = refl
-numbered-off k.EditBufferDumpRequest v p h = refl
-numbered-off k.EditBufferDumpResponse v p h = refl
-numbered-off k.GlobalParameterDumpRequest v p h = refl
-numbered-off k.GlobalParameterDumpResponse v p h = refl
-numbered-off k.SingleUserPatternDumpRequest v p h = refl
-numbered-off k.UserPatternDumpResponse v p h = rw h
-numbered-off k.ProgramBankDumpRequest v p h = refl
-numbered-off k.BankProgramNamesDumpRequest v p h = refl
-numbered-off k.BankProgramNamesDumpResponse v p h = refl
-numbered-off k.SingleProgramNameDumpRequest v p h = refl
-numbered-off k.SingleProgramNameDumpResponse v p h = refl
-numbered-off k.EditBufferPatternDumpRequest v p h = refl
-numbered-off k.ControlAppNotifyResponse v p h = refl
-numbered-off k.CalibrationDataDumpRequest v p h = refl
-numbered-off k.CalibrationDataDumpResponse v p h = refl
-numbered-off k.ChordMemoryDumpRequest v p h = refl
-numbered-off k.ChordMemoryDumpResponse v p h = refl
-numbered-off k.PolyChordMemoryDumpRequest v p h = refl
-numbered-off k.PolyChordMemoryDumpResponse v p h = refl
+numbered-off c v p h = split (optional c) (λ e. at-pattern (sym (optional-is c e)) h) (λ e. rw e)
+  where
+    at-pattern : {j : Command} → k.UserPatternDumpResponse ≡ j → accepted (rawLengthFor j v) (length p - prefixLength j) ≡ true
+        → readFields j (numberedBy (length p)) p ≡ readFields j false p
+    at-pattern e = subst (λ (j : Command). accepted (rawLengthFor j v) (length p - prefixLength j) ≡ true → readFields j (numberedBy (length p)) p ≡ readFields j false p) e (λ g. rw g)
 
 -- a run of any length is the calibration's
 any-is : (c : Command) → isAny (payloadOf c .run) ≡ eqb (codeOf c) 0x12
-any-is k.ControlAppNotifyRequest = refl
-any-is k.ProgramDumpRequest = refl
-any-is k.ProgramDumpResponse = refl
-any-is k.EditBufferDumpRequest = refl
-any-is k.EditBufferDumpResponse = refl
-any-is k.GlobalParameterDumpRequest = refl
-any-is k.GlobalParameterDumpResponse = refl
-any-is k.SingleUserPatternDumpRequest = refl
-any-is k.UserPatternDumpResponse = refl
-any-is k.ProgramBankDumpRequest = refl
-any-is k.BankProgramNamesDumpRequest = refl
-any-is k.BankProgramNamesDumpResponse = refl
-any-is k.SingleProgramNameDumpRequest = refl
-any-is k.SingleProgramNameDumpResponse = refl
-any-is k.EditBufferPatternDumpRequest = refl
-any-is k.ControlAppNotifyResponse = refl
-any-is k.CalibrationDataDumpRequest = refl
-any-is k.CalibrationDataDumpResponse = refl
-any-is k.ChordMemoryDumpRequest = refl
-any-is k.ChordMemoryDumpResponse = refl
-any-is k.PolyChordMemoryDumpRequest = refl
-any-is k.PolyChordMemoryDumpResponse = refl
+any-is c = alike-same (isAny (payloadOf c .run)) (eqb (codeOf c) 0x12) (of-every (λ j. alike (isAny (payloadOf j .run)) (eqb (codeOf j) 0x12)) refl c)
 
 unnumbered : (c : Command) (b : Bool) (p : List ℕ) → codeOf c ≡ 0x12 → readFields c b p ≡ readFields c false p
-unnumbered k.ControlAppNotifyRequest b p h = refl
-unnumbered k.ProgramDumpRequest b p h = refl
-unnumbered k.ProgramDumpResponse b p h = refl
-unnumbered k.EditBufferDumpRequest b p h = refl
-unnumbered k.EditBufferDumpResponse b p h = refl
-unnumbered k.GlobalParameterDumpRequest b p h = refl
-unnumbered k.GlobalParameterDumpResponse b p h = refl
-unnumbered k.SingleUserPatternDumpRequest b p h = refl
-unnumbered k.UserPatternDumpResponse b p h = absurd (omega arith)
-unnumbered k.ProgramBankDumpRequest b p h = refl
-unnumbered k.BankProgramNamesDumpRequest b p h = refl
-unnumbered k.BankProgramNamesDumpResponse b p h = refl
-unnumbered k.SingleProgramNameDumpRequest b p h = refl
-unnumbered k.SingleProgramNameDumpResponse b p h = refl
-unnumbered k.EditBufferPatternDumpRequest b p h = refl
-unnumbered k.ControlAppNotifyResponse b p h = refl
-unnumbered k.CalibrationDataDumpRequest b p h = refl
-unnumbered k.CalibrationDataDumpResponse b p h = refl
-unnumbered k.ChordMemoryDumpRequest b p h = refl
-unnumbered k.ChordMemoryDumpResponse b p h = refl
-unnumbered k.PolyChordMemoryDumpRequest b p h = refl
-unnumbered k.PolyChordMemoryDumpResponse b p h = refl
+unnumbered c b p h = rw h
 
-program-small : (v : ℕ) → programDataLength v ≤ 2048
-program-small v = go (eqb v 6)
-  where
-    go : (t : Bool) → pick t 242 245 ≤ 2048
-    go true = omega arith
-    go false = omega arith
+-- version 7 names the longest runs
+most-named : (r : Run) (v : ℕ) → runLength r v ≤ runLength r 7
+most-named y.none v = omega arith
+most-named y.programData v = by-test (λ (n : ℕ). n ≤ 245) (eqb v 6) 242 245 (λ e. omega arith) (λ e. omega arith)
+most-named (y.fixed n) v = omega arith
+most-named y.any v = omega arith
 
 -- no named length is above 2,048
 pub raw-small : (c : Command) (v : ℕ) → rawLengthFor c v ≤ 2048
-raw-small k.ControlAppNotifyRequest v = omega arith
-raw-small k.ProgramDumpRequest v = omega arith
-raw-small k.ProgramDumpResponse v = program-small v
-raw-small k.EditBufferDumpRequest v = omega arith
-raw-small k.EditBufferDumpResponse v = program-small v
-raw-small k.GlobalParameterDumpRequest v = omega arith
-raw-small k.GlobalParameterDumpResponse v = omega arith
-raw-small k.SingleUserPatternDumpRequest v = omega arith
-raw-small k.UserPatternDumpResponse v = omega arith
-raw-small k.ProgramBankDumpRequest v = omega arith
-raw-small k.BankProgramNamesDumpRequest v = omega arith
-raw-small k.BankProgramNamesDumpResponse v = omega arith
-raw-small k.SingleProgramNameDumpRequest v = omega arith
-raw-small k.SingleProgramNameDumpResponse v = omega arith
-raw-small k.EditBufferPatternDumpRequest v = omega arith
-raw-small k.ControlAppNotifyResponse v = omega arith
-raw-small k.CalibrationDataDumpRequest v = omega arith
-raw-small k.CalibrationDataDumpResponse v = omega arith
-raw-small k.ChordMemoryDumpRequest v = omega arith
-raw-small k.ChordMemoryDumpResponse v = omega arith
-raw-small k.PolyChordMemoryDumpRequest v = omega arith
-raw-small k.PolyChordMemoryDumpResponse v = omega arith
+raw-small c v = omega (arith, most-named (payloadOf c .run) v, leb-true (rawLengthFor c 7) 2048 (of-every (λ j. leb (rawLengthFor j 7) 2048) refl c))
 
 -- behind the version: the further prefix is missing
 pub run-too-short : (c : Command) (v : ℕ) (p : List ℕ) → length p < prefixLength c → refused 7 (codeOf c ∷ prefixLength c ∷ length p ∷ []) ≡ readRun c v p
@@ -191,7 +115,7 @@ any-run c v p h e = rw (le-leb (prefixLength c) (length p) h, any-is c, eq-eqb (
 pub named-run : (c : Command) (v : ℕ) (p : List ℕ) (a : Bool) → prefixLength c ≤ length p → (codeOf c ≡ 0x12 → ⊥)
     → accepted (rawLengthFor c v) (length p - prefixLength c) ≡ a
     → readRun c v p
-    ≡ wrongLength (a || (optional c && numberedBy (length p))) c (prefixLength c + packedLength (rawLengthFor c v)) p (readFields c (numberedBy (length p)) p)
+    ≡ whenLength (a || (optional c && numberedBy (length p))) c (prefixLength c + packedLength (rawLengthFor c v)) p (readFields c (numberedBy (length p)) p)
 unfolding readRun
 named-run c v p a h n e = rw (le-leb (prefixLength c) (length p) h, any-is c, ne-eqb (codeOf c) 0x12 n, e)
 

@@ -36,13 +36,14 @@ numberedBy n = not (accepted 65 (n - 1)) && accepted 65 (n - 2)
 abbrev pub prefixLength : Command → ℕ
 prefixLength k = length (payloadOf k .fields)
 
--- "version missing (7)"; "For 0B and 0D both prefix bytes are tested before the version"
+-- how many payload bytes must be there before the version is looked at: "version missing (7)"; "For 0B and 0D both prefix bytes are
+-- tested before the version"
 abbrev pub early : Command → ℕ
 early k = pick (eqb (codeOf k) 0x0B || eqb (codeOf k) 0x0D) 2 1
 
--- 7 carries the command, the expected length and the one found
-abbrev pub wrongLength : {A : Type 0} → Bool → Command → ℕ → List ℕ → Outcome A → Outcome A
-wrongLength ok k expected p next = unless ok 7 (codeOf k ∷ expected ∷ length p ∷ []) next
+-- 7 where a length does not fit: it carries the command, the expected length and the one found
+abbrev pub whenLength : {A : Type 0} → Bool → Command → ℕ → List ℕ → Outcome A → Outcome A
+whenLength ok k expected p next = unless ok 7 (codeOf k ∷ expected ∷ length p ∷ []) next
 
 -- the fields in wire order, and what they say
 abbrev pub readFields : Command → Bool → List ℕ → Outcome Fields
@@ -50,7 +51,7 @@ readFields k numbered p = checked (fieldList k numbered) p 0 (gives (fieldsAt k 
 
 -- "A short payload: length (7), then fields in wire order"
 abbrev pub readShort : Command → List ℕ → Outcome Fields
-readShort k p = wrongLength (eqb (length p) (prefixLength k)) k (prefixLength k) p (readFields k false p)
+readShort k p = whenLength (eqb (length p) (prefixLength k)) k (prefixLength k) p (readFields k false p)
 
 -- a run of any length that unpacks: calibration
 abbrev pub isAny : Run → Bool
@@ -63,7 +64,7 @@ isAny y.any = true
 abbrev pub whenRun : {A : Type 0} → Command → ℕ → List ℕ → Outcome A → Outcome A
 whenRun k v p next =
     pick (isAny (payloadOf k .run)) (unless (not (eqb ((length p - prefixLength k) % 8) 1)) 13 ((length p - prefixLength k) ∷ []) next)
-    (wrongLength (accepted (rawLengthFor k v) (length p - prefixLength k) || (optional k && numberedBy (length p))) k (prefixLength k + packedLength (rawLengthFor k v)) p next)
+    (whenLength (accepted (rawLengthFor k v) (length p - prefixLength k) || (optional k && numberedBy (length p))) k (prefixLength k + packedLength (rawLengthFor k v)) p next)
 
 -- "version (8)": the first byte of a dump's payload is 6 or 7
 abbrev pub versionIn : List ℕ → Bool
@@ -72,12 +73,13 @@ versionIn p = eqb (getD p 0 0) 6 || eqb (getD p 0 0) 7
 -- behind the version v: "further prefix missing (7), run length (7; calibration 13), then b, p or pattern"
 unfoldable pub readRun : Command → ℕ → List ℕ → Outcome Fields
 readRun k v p =
-    wrongLength (leb (prefixLength k) (length p)) k (prefixLength k) p (whenRun k v p (readFields k (numberedBy (length p)) p))
+    whenLength (leb (prefixLength k) (length p)) k (prefixLength k) p (whenRun k v p (readFields k (numberedBy (length p)) p))
 
 -- "A dump: version missing (7), version (8)", then the rest
 abbrev pub readDump : Command → List ℕ → Outcome Fields
-readDump k p = wrongLength (leb (early k) (length p)) k (prefixLength k) p (fieldOk y.version (getD p 0 0) (readRun k (getD p 0 0) p))
+readDump k p = whenLength (leb (early k) (length p)) k (prefixLength k) p (fieldOk y.version (getD p 0 0) (readRun k (getD p 0 0) p))
 
+-- "then payload": a dump where the command carries a run, else a short one
 abbrev pub readPayload : Command → List ℕ → Outcome Fields
 readPayload k p = pick (carriesRun k) (readDump k p) (readShort k p)
 
@@ -85,24 +87,29 @@ readPayload k p = pick (carriesRun k) (readDump k p) (readShort k p)
 abbrev pub payload : List ℕ → List ℕ
 payload bytes = take (length bytes - 8) (drop 7 bytes)
 
+-- the maker's three bytes and the model: "00 20 32 20"
 abbrev pub maker : List ℕ
 maker = 0x00 ∷ 0x20 ∷ 0x32 ∷ 0x20 ∷ []
 
+-- "device (5); command (6); then payload"
 abbrev pub readCommand : List ℕ → Outcome Record
 readCommand bytes =
     andThen (deviceOf (getD bytes 5 0))
     (λ d. andThen (commandOf (getD bytes 6 0))
     (λ k. andThen (readPayload k (payload bytes)) (λ f. gives (record { device = d; command = k; fields = f }))))
 
+-- "under eight bytes (3); maker and model (4)", with the four bytes found there
 abbrev pub readHeader : List ℕ → Outcome Record
 readHeader bytes =
     unless (leb 8 (length bytes)) 3 (length bytes ∷ [])
     (unless (sameBytes (take 4 (drop 1 bytes)) maker) 4 (getD bytes 1 0 ∷ getD bytes 2 0 ∷ getD bytes 3 0 ∷ getD bytes 4 0 ∷ [])
     (readCommand bytes))
 
+-- the whole reader: "framing (1); a body byte 80 or above (2, the first such)", then the header
 unfoldable pub readRecord : List ℕ → Outcome Record
 readRecord bytes = whenFramed bytes (whenSevenBit (body bytes) (readHeader bytes))
 
+-- the code's answer in document 01's terms
 abbrev pub recordTold : RecordAnswer → Outcome Record
 recordTold (ra.Ok r) = gives r
 recordTold (ra.Err e) = refusal e
@@ -111,6 +118,7 @@ recordTold (ra.Err e) = refusal e
 abbrev pub frameOf : Record → Frame
 frameOf r = record { device = r .device; head = headFrom (r .command) (r .fields) }
 
+-- the same with the message in place of plain fields: the Rust's `Frame::parse`
 abbrev pub parsed : List ℕ → Outcome Frame
 parsed bytes = andThen (readRecord bytes) (λ r. gives (frameOf r))
 
@@ -118,6 +126,7 @@ parsed bytes = andThen (readRecord bytes) (λ r. gives (frameOf r))
 abbrev pub runIn : Record → List ℕ → List ℕ
 runIn r bytes = pick (carriesRun (r .command)) (drop (length (fieldList (r .command) (r .fields .«has_pattern»))) (payload bytes)) []
 
+-- the run of what the reader gave; empty where it gave a refusal
 abbrev pub runIf : Outcome Record → List ℕ → List ℕ
 runIf (gives r) bytes = runIn r bytes
 runIf (refused n vs) bytes = []
@@ -130,10 +139,12 @@ runOf bytes = runIf (readRecord bytes) bytes
 abbrev pub placeIn : Record → ℕ
 placeIn r = pick (carriesRun (r .command)) (7 + length (fieldList (r .command) (r .fields .«has_pattern»))) 0
 
+-- the same of what the reader gave; 0 where it gave a refusal
 abbrev pub placeIf : Outcome Record → ℕ
 placeIf (gives r) = placeIn r
 placeIf (refused n vs) = 0
 
+-- where the run of a frame begins, 0 for a frame that is refused
 abbrev pub runPlace : List ℕ → ℕ
 runPlace bytes = placeIf (readRecord bytes)
 

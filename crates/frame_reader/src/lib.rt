@@ -162,6 +162,7 @@ fn read_dump(command: Command, payload: &[u8]) -> FieldsAnswer
     }
 }
 
+// A dump where the command carries a run, else a short payload.
 fn read_payload(command: Command, payload: &[u8]) -> FieldsAnswer
     ensures { λ r. ⌜ fieldsTold r ≡ readPayload command (now (payload .entry)) ⌝ }
 {

@@ -1,10 +1,10 @@
 -- What the frame writer writes has a body below 80, because it tests prefix and run, and the bytes ahead of them are all small.
-use mathlib.Core.Path.{_≡_, sym, _∙_, ap, subst}
+use mathlib.Core.Path.{_≡_, refl, sym, _∙_, ap, subst}
 use mathlib.Core.Bool.{true}
 use mathlib.Core.List.{List, [], _∷_, _++_, append-assoc}
 use Prim.Native.Nat.{ℕ, _-_, _<_}
 use native.Mathlib.Omega.{arith}
-use lib.Dec.{leb}
+use lib.Dec.{leb, ltb}
 use lib.ListN.{length, length-append}
 use lib.Seq.{take-at}
 use borrow.Author.Tests.{lt-ltb, ltb-true}
@@ -14,8 +14,8 @@ use Rattle.ids.specs.declared.DeviceId.{DeviceId}
 use Rattle.ids.specs.declared.DeviceId.the-variants as d
 use Rattle.ids.specs.Device.{deviceByte, deviceInRange}
 use Rattle.command.specs.declared.Command.{Command}
-use Rattle.command.specs.declared.Command.the-variants as k
 use Rattle.command.specs.Command.{codeOf}
+use Rattle.command.proofs.Table.{of-every}
 use Rattle.framing.specs.Framing.{body, firstHigh}
 use Rattle.framing.specs.declared.MaybeByte.the-variants as m
 use Rattle.framing.proofs.Bytes.{no-high}
@@ -34,28 +34,7 @@ device-low (d.Unit n) h = omega (arith, ltb-true n 16 h)
 device-low d.Broadcast h = omega arith
 
 code-low : (c : Command) → codeOf c < 0x80
-code-low k.ControlAppNotifyRequest = omega arith
-code-low k.ProgramDumpRequest = omega arith
-code-low k.ProgramDumpResponse = omega arith
-code-low k.EditBufferDumpRequest = omega arith
-code-low k.EditBufferDumpResponse = omega arith
-code-low k.GlobalParameterDumpRequest = omega arith
-code-low k.GlobalParameterDumpResponse = omega arith
-code-low k.SingleUserPatternDumpRequest = omega arith
-code-low k.UserPatternDumpResponse = omega arith
-code-low k.ProgramBankDumpRequest = omega arith
-code-low k.BankProgramNamesDumpRequest = omega arith
-code-low k.BankProgramNamesDumpResponse = omega arith
-code-low k.SingleProgramNameDumpRequest = omega arith
-code-low k.SingleProgramNameDumpResponse = omega arith
-code-low k.EditBufferPatternDumpRequest = omega arith
-code-low k.ControlAppNotifyResponse = omega arith
-code-low k.CalibrationDataDumpRequest = omega arith
-code-low k.CalibrationDataDumpResponse = omega arith
-code-low k.ChordMemoryDumpRequest = omega arith
-code-low k.ChordMemoryDumpResponse = omega arith
-code-low k.PolyChordMemoryDumpRequest = omega arith
-code-low k.PolyChordMemoryDumpResponse = omega arith
+code-low c = ltb-true (codeOf c) 0x80 (of-every (λ j. ltb (codeOf j) 0x80) refl c)
 
 -- the row's body
 row-body-low : (device code : ℕ) (prefix run : List ℕ) → device < 0x80 → code < 0x80 → firstHigh (prefix ++ run) ≡ m.None

@@ -5,98 +5,33 @@ use mathlib.Core.Bool.{Bool, true, false, _&&_, _||_, not}
 use mathlib.Core.List.{List, [], _∷_}
 use Prim.Native.Nat.{ℕ, _+_, _-_, _%_, _≤_}
 use native.Mathlib.Omega.{arith}
-use lib.Dec.{eqb}
+use lib.Dec.{eqb, leb}
 use lib.ListN.{length, getD, take, drop}
-use borrow.Author.Tests.{le-leb, eq-eqb}
+use borrow.Author.Tests.{le-leb, eq-eqb, leb-true}
 use Rattle.laws.specs.Choice.{pick}
 use Rattle.laws.proofs.Tests.{both}
 use Rattle.refusal.specs.Outcome.{Outcome, gives, unless}
 use Rattle.command.specs.declared.Command.{Command}
-use Rattle.command.specs.declared.Command.the-variants as k
 use Rattle.command.specs.Command.{codeOf}
 use Rattle.command.specs.Payload as y
 use Rattle.command.specs.Payload.{payloadOf, rawLengthFor}
+use Rattle.command.proofs.Table.{of-every}
 use Rattle.packed.specs.Packed.{packedLength}
 use Rattle.framing.specs.Framing.{sameBytes}
 use Rattle.fields.specs.declared.Fields.{Fields}
 use Rattle.fields.specs.Wire.{carriesRun, optional, fieldList, fieldsAt, allFit}
 use Rattle.frame_reader.specs.declared.Record.{Record}
 use Rattle.frame_reader.specs.Reader.{accepted, numberedBy, prefixLength, early, isAny, whenRun, versionIn, readFields, readShort, readRun, readDump, readPayload, payload, maker, readRecord}
-use Rattle.frame_reader.proofs.Accepted.{Payload, Described, runFits, described, fit-given}
+use Rattle.fields.proofs.ByKind.{version-leads}
+use Rattle.frame_reader.proofs.Accepted.{Payload, Described, runFits, described, fit-given, no-option}
 
 -- a dump's first byte is its version
 version-fits : (c : Command) (b : Bool) (p : List ℕ) → carriesRun c ≡ true → allFit (fieldList c b) p 0 ≡ true → versionIn p ≡ true
-version-fits k.ControlAppNotifyRequest b p h f = let z : _≡_ {A = ℕ} 0 1 = cc in absurd (omega arith)
-version-fits k.ProgramDumpRequest b p h f = let z : _≡_ {A = ℕ} 0 1 = cc in absurd (omega arith)
-version-fits k.ProgramDumpResponse b p h f = both (versionIn p) (allFit (y.bank ∷ y.program ∷ []) p 1) f .0
-version-fits k.EditBufferDumpRequest b p h f = let z : _≡_ {A = ℕ} 0 1 = cc in absurd (omega arith)
-version-fits k.EditBufferDumpResponse b p h f = both (versionIn p) (true) f .0
-version-fits k.GlobalParameterDumpRequest b p h f = let z : _≡_ {A = ℕ} 0 1 = cc in absurd (omega arith)
-version-fits k.GlobalParameterDumpResponse b p h f = both (versionIn p) (true) f .0
-version-fits k.SingleUserPatternDumpRequest b p h f = let z : _≡_ {A = ℕ} 0 1 = cc in absurd (omega arith)
-version-fits k.UserPatternDumpResponse true p h f = both (versionIn p) (allFit (y.pattern ∷ []) p 1) f .0
-version-fits k.UserPatternDumpResponse false p h f = both (versionIn p) true f .0
-version-fits k.ProgramBankDumpRequest b p h f = let z : _≡_ {A = ℕ} 0 1 = cc in absurd (omega arith)
-version-fits k.BankProgramNamesDumpRequest b p h f = let z : _≡_ {A = ℕ} 0 1 = cc in absurd (omega arith)
-version-fits k.BankProgramNamesDumpResponse b p h f = both (versionIn p) (allFit (y.bank ∷ []) p 1) f .0
-version-fits k.SingleProgramNameDumpRequest b p h f = let z : _≡_ {A = ℕ} 0 1 = cc in absurd (omega arith)
-version-fits k.SingleProgramNameDumpResponse b p h f = both (versionIn p) (allFit (y.bank ∷ []) p 1) f .0
-version-fits k.EditBufferPatternDumpRequest b p h f = let z : _≡_ {A = ℕ} 0 1 = cc in absurd (omega arith)
-version-fits k.ControlAppNotifyResponse b p h f = let z : _≡_ {A = ℕ} 0 1 = cc in absurd (omega arith)
-version-fits k.CalibrationDataDumpRequest b p h f = let z : _≡_ {A = ℕ} 0 1 = cc in absurd (omega arith)
-version-fits k.CalibrationDataDumpResponse b p h f = both (versionIn p) (true) f .0
-version-fits k.ChordMemoryDumpRequest b p h f = let z : _≡_ {A = ℕ} 0 1 = cc in absurd (omega arith)
-version-fits k.ChordMemoryDumpResponse b p h f = both (versionIn p) (true) f .0
-version-fits k.PolyChordMemoryDumpRequest b p h f = let z : _≡_ {A = ℕ} 0 1 = cc in absurd (omega arith)
-version-fits k.PolyChordMemoryDumpResponse b p h f = both (versionIn p) (true) f .0
+version-fits c b p h f = both (versionIn p) (allFit (drop 1 (fieldList c b)) p 1) (rw (version-leads c b h) at f) .0
 
+-- what must be there before the version is looked at belongs to the prefix
 early-there : (c : Command) → carriesRun c ≡ true → early c ≤ prefixLength c
-early-there k.ControlAppNotifyRequest h = let z : _≡_ {A = ℕ} 0 1 = cc in absurd (omega arith)
-early-there k.ProgramDumpRequest h = let z : _≡_ {A = ℕ} 0 1 = cc in absurd (omega arith)
-early-there k.ProgramDumpResponse h = omega arith
-early-there k.EditBufferDumpRequest h = let z : _≡_ {A = ℕ} 0 1 = cc in absurd (omega arith)
-early-there k.EditBufferDumpResponse h = omega arith
-early-there k.GlobalParameterDumpRequest h = let z : _≡_ {A = ℕ} 0 1 = cc in absurd (omega arith)
-early-there k.GlobalParameterDumpResponse h = omega arith
-early-there k.SingleUserPatternDumpRequest h = let z : _≡_ {A = ℕ} 0 1 = cc in absurd (omega arith)
-early-there k.UserPatternDumpResponse h = omega arith
-early-there k.ProgramBankDumpRequest h = let z : _≡_ {A = ℕ} 0 1 = cc in absurd (omega arith)
-early-there k.BankProgramNamesDumpRequest h = let z : _≡_ {A = ℕ} 0 1 = cc in absurd (omega arith)
-early-there k.BankProgramNamesDumpResponse h = omega arith
-early-there k.SingleProgramNameDumpRequest h = let z : _≡_ {A = ℕ} 0 1 = cc in absurd (omega arith)
-early-there k.SingleProgramNameDumpResponse h = omega arith
-early-there k.EditBufferPatternDumpRequest h = let z : _≡_ {A = ℕ} 0 1 = cc in absurd (omega arith)
-early-there k.ControlAppNotifyResponse h = let z : _≡_ {A = ℕ} 0 1 = cc in absurd (omega arith)
-early-there k.CalibrationDataDumpRequest h = let z : _≡_ {A = ℕ} 0 1 = cc in absurd (omega arith)
-early-there k.CalibrationDataDumpResponse h = omega arith
-early-there k.ChordMemoryDumpRequest h = let z : _≡_ {A = ℕ} 0 1 = cc in absurd (omega arith)
-early-there k.ChordMemoryDumpResponse h = omega arith
-early-there k.PolyChordMemoryDumpRequest h = let z : _≡_ {A = ℕ} 0 1 = cc in absurd (omega arith)
-early-there k.PolyChordMemoryDumpResponse h = omega arith
-
-no-option : (c : Command) → carriesRun c ≡ false → optional c ≡ false
-no-option k.ControlAppNotifyRequest h = refl
-no-option k.ProgramDumpRequest h = refl
-no-option k.ProgramDumpResponse h = refl
-no-option k.EditBufferDumpRequest h = refl
-no-option k.EditBufferDumpResponse h = refl
-no-option k.GlobalParameterDumpRequest h = refl
-no-option k.GlobalParameterDumpResponse h = refl
-no-option k.SingleUserPatternDumpRequest h = refl
-no-option k.UserPatternDumpResponse h = let z : _≡_ {A = ℕ} 0 1 = cc in absurd (omega arith)
-no-option k.ProgramBankDumpRequest h = refl
-no-option k.BankProgramNamesDumpRequest h = refl
-no-option k.BankProgramNamesDumpResponse h = refl
-no-option k.SingleProgramNameDumpRequest h = refl
-no-option k.SingleProgramNameDumpResponse h = refl
-no-option k.EditBufferPatternDumpRequest h = refl
-no-option k.ControlAppNotifyResponse h = refl
-no-option k.CalibrationDataDumpRequest h = refl
-no-option k.CalibrationDataDumpResponse h = refl
-no-option k.ChordMemoryDumpRequest h = refl
-no-option k.ChordMemoryDumpResponse h = refl
-no-option k.PolyChordMemoryDumpRequest h = refl
-no-option k.PolyChordMemoryDumpResponse h = refl
+early-there c h = leb-true (early c) (prefixLength c) (rw h at (of-every (λ j. leb (pick (carriesRun j) (early j) 0) (prefixLength j)) refl c))
 
 run-passes : (c : Command) (p : List ℕ) (next : Outcome Fields) → runFits c p ≡ true → whenRun c (getD p 0 0) p next ≡ next
 run-passes c p next h = go (isAny (payloadOf c .run)) h

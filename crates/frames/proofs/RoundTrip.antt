@@ -27,7 +27,7 @@ use Rattle.fields.specs.declared.Fields.{Fields}
 use Rattle.fields.specs.Wire.{carriesRun, fieldList, fieldsAt, wire, prefixOf, allFit, fieldFits, checkedFields}
 use Rattle.frame_reader.specs.declared.Record.{Record}
 use Rattle.frame_reader.specs.Reader.{numberedBy, prefixLength, payload, maker, readRecord, runIn, runOf}
-use Rattle.frame_reader.proofs.Accepted.{Described, described, fit-given}
+use Rattle.frame_reader.proofs.Accepted.{Described, described, fit-given, no-option}
 use Rattle.frame_reader.proofs.RunPlace.{own-list, length-payload, prefix-there}
 use Rattle.frame_writer.specs.Writer.{header, row, ownRun, recordWrite}
 
@@ -64,28 +64,7 @@ wire-back k.PolyChordMemoryDumpResponse b p = refl
 
 -- a command without a run has no number to count
 exact-list : (c : Command) (b : Bool) → carriesRun c ≡ false → length (fieldList c b) ≡ prefixLength c
-exact-list k.ControlAppNotifyRequest b h = refl
-exact-list k.ProgramDumpRequest b h = refl
-exact-list k.ProgramDumpResponse b h = refl
-exact-list k.EditBufferDumpRequest b h = refl
-exact-list k.EditBufferDumpResponse b h = refl
-exact-list k.GlobalParameterDumpRequest b h = refl
-exact-list k.GlobalParameterDumpResponse b h = refl
-exact-list k.SingleUserPatternDumpRequest b h = refl
-exact-list k.UserPatternDumpResponse b h = let z : _≡_ {A = ℕ} 0 1 = cc in absurd (omega arith)
-exact-list k.ProgramBankDumpRequest b h = refl
-exact-list k.BankProgramNamesDumpRequest b h = refl
-exact-list k.BankProgramNamesDumpResponse b h = refl
-exact-list k.SingleProgramNameDumpRequest b h = refl
-exact-list k.SingleProgramNameDumpResponse b h = refl
-exact-list k.EditBufferPatternDumpRequest b h = refl
-exact-list k.ControlAppNotifyResponse b h = refl
-exact-list k.CalibrationDataDumpRequest b h = refl
-exact-list k.CalibrationDataDumpResponse b h = refl
-exact-list k.ChordMemoryDumpRequest b h = refl
-exact-list k.ChordMemoryDumpResponse b h = refl
-exact-list k.PolyChordMemoryDumpRequest b h = refl
-exact-list k.PolyChordMemoryDumpResponse b h = refl
+exact-list c b h = rw (no-option c h)
 
 -- fields fit by their bytes alone
 fit-front : (l : List Field) (p q : List ℕ) (i n : ℕ) → i + length l ≤ n → ((j : ℕ) → j < n → getD p j 0 ≡ getD q j 0) → allFit l p i ≡ true → allFit l q i ≡ true

@@ -7,7 +7,7 @@ use Prim.Native.Nat.{ℕ, zero, suc, _+_, _-_, _%_, _≤_, _<_}
 use native.Mathlib.Omega.{arith}
 use lib.Dec.{ltb, leb, eqb}
 use borrow.Author.Tests.{ltb-true, ltb-false, le-ltb, lt-leb}
-use Rattle.laws.proofs.Tests.{both}
+use Rattle.laws.proofs.Tests.{both, alike, alike-same}
 use Rattle.packed.specs.Packed.{unpackedLength}
 use Rattle.frame_reader.specs.Reader.{accepted, numberedBy}
 use Rattle.frames.specs.Lengths.{Stretch, lengths, listed, programs7, programs6, globals, bankNames, oneName, chords, polyChords, patternAlone, patternNumbered}
@@ -27,16 +27,6 @@ all-below f (suc n) i h b = go (ltb i n) refl (λ e. all-below f n i (both (f n)
     go false e before =
         let same : i ≡ n = omega (arith, ltb-false i n e) in
         ap f same ∙ both (f n) (allBelow f n) h .0
-
-alike : Bool → Bool → Bool
-alike true b = b
-alike false b = not b
-
-alike-same : (a b : Bool) → alike a b ≡ true → a ≡ b
-unfolding alike
-alike-same true b h = sym h
-alike-same false true h = h
-alike-same false false h = refl
 
 and-false : (a : Bool) → (a && false) ≡ false
 and-false true = refl
@@ -62,41 +52,41 @@ two-end : (a b d e n : ℕ) → b < n → e < n → listed (lengths a b ∷ leng
 two-end a b d e n p q = rw (lt-leb n b p, lt-leb n e q, and-false (leb a n), and-false (leb d n))
 
 pub program-7 : (n : ℕ) → accepted 245 n ≡ listed programs7 n
-unfolding allBelow alike
+unfolding allBelow
 program-7 n = agree (accepted 245) programs7 288 refl (λ k h. too-long 245 k (omega arith)) (λ k h. two-end 280 280 282 287 k (omega arith) (omega arith)) n
 
 pub program-6 : (n : ℕ) → accepted 242 n ≡ listed programs6 n
-unfolding allBelow alike
+unfolding allBelow
 program-6 n = agree (accepted 242) programs6 285 refl (λ k h. too-long 242 k (omega arith)) (λ k h. two-end 277 280 282 284 k (omega arith) (omega arith)) n
 
 pub global : (n : ℕ) → accepted 45 n ≡ listed globals n
-unfolding allBelow alike
+unfolding allBelow
 global n = agree (accepted 45) globals 60 refl (λ k h. too-long 45 k (omega arith)) (λ k h. two-end 52 56 58 59 k (omega arith) (omega arith)) n
 
 pub bank-names : (n : ℕ) → accepted 2048 n ≡ listed bankNames n
-unfolding allBelow alike
+unfolding allBelow
 bank-names n = agree (accepted 2048) bankNames 2349 refl (λ k h. too-long 2048 k (omega arith)) (λ k h. two-end 2341 2344 2346 2348 k (omega arith) (omega arith)) n
 
 pub one-name : (n : ℕ) → accepted 16 n ≡ listed oneName n
-unfolding allBelow alike
+unfolding allBelow
 one-name n = agree (accepted 16) oneName 27 refl (λ k h. too-long 16 k (omega arith)) (λ k h. two-end 19 24 26 26 k (omega arith) (omega arith)) n
 
 pub chord : (n : ℕ) → accepted 26 n ≡ listed chords n
-unfolding allBelow alike
+unfolding allBelow
 chord n = agree (accepted 26) chords 38 refl (λ k h. too-long 26 k (omega arith)) (λ k h. two-end 30 32 34 37 k (omega arith) (omega arith)) n
 
 -- one stretch; 593 is 1 mod 8
 pub poly-chord : (n : ℕ) → accepted 512 n ≡ listed polyChords n
-unfolding allBelow alike
+unfolding allBelow
 poly-chord n = agree (accepted 512) polyChords 594 refl (λ k h. too-long 512 k (omega arith)) (λ k h. rw (lt-leb k 592 (omega arith), and-false (leb 586 k))) n
 
 pub pattern-alone : (n : ℕ) → accepted 65 n ≡ listed patternAlone n
-unfolding allBelow alike
+unfolding allBelow
 pattern-alone n = agree (accepted 65) patternAlone 83 refl (λ k h. too-long 65 k (omega arith)) (λ k h. two-end 75 80 82 82 k (omega arith) (omega arith)) n
 
 -- n bytes behind the version: one byte more in the payload
 pub pattern-numbered : (n : ℕ) → numberedBy (n + 1) ≡ listed patternNumbered n
-unfolding allBelow alike
+unfolding allBelow
 pattern-numbered n =
     agree (λ k. numberedBy (k + 1)) patternNumbered 84 refl
     (λ k h. rw (too-long 65 (k + 1 - 2) (omega arith)) (and-false (not (accepted 65 (k + 1 - 1)))))

@@ -12,6 +12,7 @@ use Rattle.wire.specs.declared.system_common.SystemCommon.the-variants as y
 use Rattle.wire.specs.declared.real_time.Realtime.{Realtime}
 use Rattle.wire.specs.declared.real_time.Realtime.the-variants as t
 use Rattle.wire.specs.Channel.{statusNibble}
+use Rattle.wire.proofs.ReadBack.{kind}
 use Rattle.decoder.specs.declared.Report.{Report}
 use Rattle.decoder.specs.declared.Report.the-variants as r
 use Rattle.decoder.specs.declared.MaybeReport.{MaybeReport}
@@ -22,23 +23,22 @@ use Rattle.decoder_bytes.specs.Reports.{reportKind, reportStatus, reportFirst, 
 use Rattle.host_damage.specs.Numbers.{channelRead, reportRead, toldBy}
 use Rattle.host_damage.proofs.Named.{NamedReport, Named}
 
--- the two halves of a status byte
-high : (k c : ℕ) → c < 16 → (k * 16 + c) / 16 ≡ k
-high k c h = omega arith
-
+-- the low four bits of a status byte
 low : (k c : ℕ) → c < 16 → (k * 16 + c) % 16 ≡ c
 low k c h = omega arith
 
+-- a channel message by its status byte and two numbers
 channel-told : (c : ℕ) (m : ChannelMessage) → c < 16
     → channelRead (statusNibble m + c) (messageFirst m) (messageSecond m) ≡ gives (channel (record { 0 = c }) m) ∷ []
-channel-told c (x.NoteOff a b) h = rw (high 0x8 c h, low 0x8 c h)
-channel-told c (x.NoteOn a b) h = rw (high 0x9 c h, low 0x9 c h)
-channel-told c (x.PolyKeyPressure a b) h = rw (high 0xA c h, low 0xA c h)
-channel-told c (x.ControlChange a b) h = rw (high 0xB c h, low 0xB c h)
-channel-told c (x.ProgramChange a) h = rw (high 0xC c h, low 0xC c h)
-channel-told c (x.ChannelPressure a) h = rw (high 0xD c h, low 0xD c h)
-channel-told c (x.PitchBend a) h = rw (high 0xE c h, low 0xE c h)
+channel-told c (x.NoteOff a b) h = rw (kind 0x8 c h, low 0x8 c h)
+channel-told c (x.NoteOn a b) h = rw (kind 0x9 c h, low 0x9 c h)
+channel-told c (x.PolyKeyPressure a b) h = rw (kind 0xA c h, low 0xA c h)
+channel-told c (x.ControlChange a b) h = rw (kind 0xB c h, low 0xB c h)
+channel-told c (x.ProgramChange a) h = rw (kind 0xC c h, low 0xC c h)
+channel-told c (x.ChannelPressure a) h = rw (kind 0xD c h, low 0xD c h)
+channel-told c (x.PitchBend a) h = rw (kind 0xE c h, low 0xE c h)
 
+-- any report by its numbers
 report-told : (store : List ℕ) (z : Report) → NamedReport z
     → reportRead store (reportKind z) (reportStatus z) (reportFirst z) (reportSecond z) ≡ told store z ∷ []
 report-told store (r.Channel c z) n = channel-told (c .0) z n
@@ -56,6 +56,7 @@ report-told store (r.Realtime t.SystemReset) n = refl
 report-told store r.SysExInterrupted n = refl
 report-told store (r.SysExTooLong k) n = refl
 
+-- and an answer's reports, 18 first where it broke off a frame
 pub numbers-told : (store : List ℕ) (used : ℕ) (i : Bool) (z : MaybeReport) → Named z → toldBy (numbersOf used i z) store ≡ toldAll store (reportList i z)
 numbers-told store used true m.None n = refl
 numbers-told store used false m.None n = refl

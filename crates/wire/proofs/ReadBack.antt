@@ -31,7 +31,7 @@ pub both-small : (a b : ℕ) → (leb a 127 && leb b 127) ≡ true → (a ≤ 12
 both-small a b h = let d = both (leb a 127) (leb b 127) h in (leb-true a 127 (d .0), leb-true b 127 (d .1))
 
 -- the kind of a status byte: channel c of kind k
-kind : (k c : ℕ) → c < 16 → (k * 16 + c) / 16 ≡ k
+pub kind : (k c : ℕ) → c < 16 → (k * 16 + c) / 16 ≡ k
 kind k c h = omega arith
 
 -- seven bits of a small number are the number
