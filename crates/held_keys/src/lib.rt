@@ -5,7 +5,8 @@ ghost use Prim.Native.Nat.{ℕ, _%_, _<_};
 ghost use lib.Dec.{eqb};
 ghost use Rattle.refusal.specs.Outcome.{counted};
 ghost use Rattle.laws.specs.Choice.{pick};
-ghost use Rattle.held_keys.specs.HeldKeys.{bit, isHeld, effectOf, Afterwards, Told, countOn, firstHeld};
+ghost use Rattle.held_keys.specs.HeldKeys.{bit, effectOf, Afterwards, Told, countOn, firstHeld};
+ghost use Rattle.held_keys.specs.Record.{fresh};
 use refusal::Count;
 use refusal::Refusal;
 use wire::CHANNEL_COUNT;
@@ -32,8 +33,9 @@ pub enum FirstHeld {
     None,
 }
 
+// A record in which no key is held.
 pub fn new() -> HeldKeys
-    ensures { λ r. ⌜ ((c k : ℕ) → isHeld r c k ≡ false) ⌝ }
+    ensures { λ r. ⌜ r ≡ fresh ⌝ }
 {
     [[0u64; 2]; 16]
 }
@@ -59,6 +61,7 @@ pub fn effect_of(message: ChannelMessage) -> Effect
     }
 }
 
+// Is a bit set?
 fn bit_set(word: u64, at: usize) -> bool
     requires { ⌜ at < 64 ⌝ }
     ensures { λ r. ⌜ r ≡ bit word at ⌝ }
@@ -66,6 +69,7 @@ fn bit_set(word: u64, at: usize) -> bool
     (word >> at) & 1 == 1
 }
 
+// The word with a bit set.
 fn with_bit(word: u64, at: usize) -> u64
     requires { ⌜ at < 64 ⌝ }
     ensures { λ r. ⌜ ((j : ℕ) → bit r j ≡ pick (eqb j at) true (bit word j)) ⌝ }
@@ -73,6 +77,7 @@ fn with_bit(word: u64, at: usize) -> u64
     word | (1u64 << at)
 }
 
+// The word with a bit cleared.
 fn without_bit(word: u64, at: usize) -> u64
     requires { ⌜ at < 64 ⌝ }
     ensures { λ r. ⌜ ((j : ℕ) → bit r j ≡ pick (eqb j at) false (bit word j)) ⌝ }

@@ -16,8 +16,9 @@ use Rattle.wire.specs.declared.channel_message.MaybeChannelMessage.{MaybeChanne
 use Rattle.wire.specs.declared.channel_message.MaybeChannelMessage.the-variants as c
 use Rattle.held_keys.specs.declared.KeyAnswer.{KeyAnswer}
 use Rattle.held_keys.specs.declared.KeyAnswer.the-variants as k
-use Rattle.held_keys.specs.HeldKeys.{isHeld, stillHeld, keyTold, Told, Afterwards}
-use Rattle.held_keys.specs.Record.{recordAfter}
+use Rattle.held_keys.specs.HeldKeys.{stillHeld, keyTold, Told, Afterwards}
+use Rattle.held_keys.specs.Record.{recordAfter, fresh}
+use Rattle.held_keys.proofs.Keys.{none-held}
 use Rattle.held_keys.proofs.Made.{made-held, made-shaped, after-meets}
 use Rattle.held_bytes.specs.HeldBytes.{keysOf, bytesOf}
 use Rattle.held_bytes.proofs.RoundTrip.{bytes-same, bytes-fresh, keys-read-back, keys-shaped}
@@ -29,14 +30,14 @@ use Rattle.host_held.specs.Held.{freshWrite, applyAnswer, applyBytes, He
 pub fresh-refused : (bytes : List ℕ) (r : Answer) → (length bytes ≡ 256 → ⊥) → r ≡ answerOf (refusal BadStore) → Sends (freshWrite bytes) r bytes bytes
 fresh-refused bytes r h e = record { answers = rw (ne-eqb (length bytes) 256 h) e; leaves = rw (ne-eqb (length bytes) 256 h) }
 
-pub fresh-written : (bytes later : List ℕ) (keys : List (List ℕ)) (r : Answer) → length bytes ≡ 256 → ((c k : ℕ) → isHeld keys c k ≡ false)
+pub fresh-written : (bytes later : List ℕ) (keys : List (List ℕ)) (r : Answer) → length bytes ≡ 256 → keys ≡ fresh
     → later ≡ bytesOf keys → r ≡ answerOf (gives 256) → Sends (freshWrite bytes) r bytes later
-fresh-written bytes later keys r h none l e =
+fresh-written bytes later keys r h new l e =
     let zeros : List ℕ = replicate 256 0 in
     let behind : drop (length zeros) bytes ≡ [] = drop-of-length-le bytes {i = length zeros} (omega (arith, length-replicate {A = ℕ} 256 0, h)) in
     record {
       answers = rw (eq-eqb (length bytes) 256 h) e;
-      leaves = rw (eq-eqb (length bytes) 256 h) (l ∙ bytes-fresh keys none ∙ sym (ap (λ (rest : List ℕ). zeros ++ rest) behind ∙ append-nil zeros));
+      leaves = rw (eq-eqb (length bytes) 256 h) (l ∙ ap bytesOf new ∙ bytes-fresh fresh (none-held 16) ∙ sym (ap (λ (rest : List ℕ). zeros ++ rest) behind ∙ append-nil zeros));
     }
 
 -- a message: 20

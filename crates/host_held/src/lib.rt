@@ -25,11 +25,11 @@ pub struct HeldAnswer {
 pub extern "C" fn dm_held_fresh(keys: &mut [u8]) -> Answer
     ensures { λ r. ⌜ Sends (freshWrite (now (keys .entry))) r (now (keys .entry)) (now (keys .exit)) ⌝ }
 {
-    if keys.len() != HELD_LEN {
+    if keys.len() != held_bytes::HELD_LEN {
         return boundary::refused(Refusal::BadStore);
     }
     held_bytes::put_keys(held_keys::new(), keys);
-    boundary::done(256)
+    boundary::done(HELD_LEN as u64)
 }
 
 // Applies a message, given as dm_channel_write takes it. Refuses 20 for the length, NO_RECORD for a nibble that no record names, 17; then nothing is changed.
