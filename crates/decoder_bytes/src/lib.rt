@@ -13,6 +13,7 @@ pub use reports::FedAnswer;
 
 pub const STATE_LEN: usize = 14;
 
+// Are these bytes a state's? As many, flags 0 or 1, and no status without its flag; whether it is sound is the decoder's question.
 pub fn is_state(state: &[u8]) -> bool
     ensures { λ r. ⌜ r ≡ isState (now (state .entry)) ⌝ }
 {
@@ -38,6 +39,7 @@ fn four(a: u8, b: u8, c: u8, d: u8) -> usize
     (a as usize) + 256 * (b as usize) + 65_536 * (c as usize) + 16_777_216 * (d as usize)
 }
 
+// The frame's length so far.
 fn length_of(state: &[u8]) -> usize
     requires { ⌜ length (now state) ≡ 14 ⌝ }
     ensures { λ r. ⌜ r ≡ stateLength (now (state .entry)) ⌝ }
@@ -47,6 +49,7 @@ fn length_of(state: &[u8]) -> usize
     low + 4_294_967_296 * high
 }
 
+// The status, where the flag says that there is one.
 fn status_of(flag: u8, status: u8) -> RunningStatus
     ensures { λ r. ⌜ r ≡ statusOf flag status ⌝ }
 {
@@ -57,6 +60,7 @@ fn status_of(flag: u8, status: u8) -> RunningStatus
     }
 }
 
+// The state that the bytes say.
 pub fn state_of(state: &[u8]) -> Decoder
     requires { ⌜ length (now state) ≡ 14 ⌝ }
     ensures { λ r. ⌜ r ≡ stateOf (now (state .entry)) ⌝ }
@@ -71,6 +75,7 @@ pub fn state_of(state: &[u8]) -> Decoder
     }
 }
 
+// 1 where there is a status.
 fn status_flag(status: RunningStatus) -> u8
     ensures { λ r. ⌜ r ≡ statusFlag status ⌝ }
 {
@@ -80,6 +85,7 @@ fn status_flag(status: RunningStatus) -> u8
     }
 }
 
+// The status byte, 0 where there is none.
 fn status_byte(status: RunningStatus) -> u8
     ensures { λ r. ⌜ r ≡ statusByte status ⌝ }
 {
@@ -89,6 +95,7 @@ fn status_byte(status: RunningStatus) -> u8
     }
 }
 
+// A state's bytes.
 pub fn put_state(d: Decoder, state: &mut [u8])
     requires { ⌜ length (now state) ≡ 14 ⌝ }
     ensures { λ _. ⌜ now (state .exit) ≡ encoded d ⌝ }

@@ -31,6 +31,7 @@ pub const COMMON: u64 = 3;
 
 pub const REALTIME: u64 = 4;
 
+// A system common message's status byte.
 fn common_status(message: SystemCommon) -> u64
     ensures { λ r. ⌜ r ≡ commonStatusOf message ⌝ }
 {
@@ -42,6 +43,7 @@ fn common_status(message: SystemCommon) -> u64
     }
 }
 
+// Its value; 0 for a tune request.
 fn common_value(message: SystemCommon) -> u64
     ensures { λ r. ⌜ r ≡ commonValue message ⌝ }
 {
@@ -53,6 +55,7 @@ fn common_value(message: SystemCommon) -> u64
     }
 }
 
+// A channel message's first data byte, or its bend.
 fn message_first(message: ChannelMessage) -> u64
     ensures { λ r. ⌜ r ≡ messageFirst message ⌝ }
 {
@@ -70,6 +73,7 @@ fn message_first(message: ChannelMessage) -> u64
     }
 }
 
+// Its second data byte; 0 where it has none.
 fn message_second(message: ChannelMessage) -> u64
     ensures { λ r. ⌜ r ≡ messageSecond message ⌝ }
 {
@@ -87,6 +91,7 @@ fn message_second(message: ChannelMessage) -> u64
     }
 }
 
+// A report's kind.
 fn kind(report: Report) -> u64
     ensures { λ r. ⌜ r ≡ reportKind report ⌝ }
 {
@@ -94,15 +99,16 @@ fn kind(report: Report) -> u64
         Report::Channel {
             channel: _,
             message: _,
-        } => 1,
-        Report::SysEx(_) => 2,
-        Report::Common(_) => 3,
-        Report::Realtime(_) => 4,
+        } => CHANNEL,
+        Report::SysEx(_) => SYSEX,
+        Report::Common(_) => COMMON,
+        Report::Realtime(_) => REALTIME,
         Report::SysExInterrupted => 18,
         Report::SysExTooLong(_) => 19,
     }
 }
 
+// Its status byte; 0 where it has none.
 fn status(report: Report) -> u64
     ensures { λ r. ⌜ r ≡ reportStatus report ⌝ }
 {
@@ -117,6 +123,7 @@ fn status(report: Report) -> u64
     }
 }
 
+// Its first number: data, a bend, a value, a frame's length or the frame limit.
 fn first(report: Report) -> u64
     ensures { λ r. ⌜ r ≡ reportFirst report ⌝ }
 {
@@ -133,6 +140,7 @@ fn first(report: Report) -> u64
     }
 }
 
+// Its second number: a channel message's second data byte.
 fn second(report: Report) -> u64
     ensures { λ r. ⌜ r ≡ reportSecond report ⌝ }
 {
@@ -159,7 +167,7 @@ pub fn numbers(used: usize, interrupted: bool, report: MaybeReport) -> FedAnswer
             number: 0,
             used: used as u64,
             interrupted: flag,
-            kind: 0,
+            kind: NOTHING,
             status: 0,
             first: 0,
             second: 0,

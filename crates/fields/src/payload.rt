@@ -9,7 +9,10 @@ use crate::notify_fields;
 use crate::pattern_fields;
 use crate::request_fields;
 use command::Command;
+use ids::BANK_COUNT;
+use ids::PROGRAMS_PER_BANK;
 use ids::ProtocolVersion;
+use ids::USER_PATTERN_COUNT;
 use ids::VersionAnswer;
 use refusal::Refusal;
 
@@ -84,6 +87,7 @@ pub fn fields_at(command: Command, a: u8, b: u8, d: u8, e: u8, f: u8, numbered: 
     }
 }
 
+// So many bytes, as a prefix.
 fn padded(len: usize, a: u8, b: u8, d: u8, e: u8, f: u8) -> Prefix
     ensures { λ r. ⌜ (r .len ≡ len) × (r .bytes ≡ a ∷ b ∷ d ∷ e ∷ f ∷ []) ⌝ }
 {
@@ -157,16 +161,16 @@ pub fn check_small(fields: Fields) -> FieldsAnswer
     if 3 <= fields.interface {
         return FieldsAnswer::Err(Refusal::InvalidInterface(fields.interface));
     }
-    if 8 <= fields.bank {
+    if BANK_COUNT <= fields.bank {
         return FieldsAnswer::Err(Refusal::BankOutOfRange(fields.bank));
     }
-    if 128 <= fields.program {
+    if PROGRAMS_PER_BANK <= fields.program {
         return FieldsAnswer::Err(Refusal::ProgramOutOfRange(fields.program));
     }
-    if 128 <= fields.last {
+    if PROGRAMS_PER_BANK <= fields.last {
         return FieldsAnswer::Err(Refusal::ProgramOutOfRange(fields.last));
     }
-    if 32 <= fields.pattern {
+    if USER_PATTERN_COUNT <= fields.pattern {
         return FieldsAnswer::Err(Refusal::PatternOutOfRange(fields.pattern));
     }
     FieldsAnswer::Ok(fields)

@@ -109,7 +109,7 @@ fn not_read(e: Refusal) -> ReadAnswer
     }
 }
 
-// Reads a frame, F0 to F7. Refuses 1, 2, 3, 4, 5, 6, then as its payload: 7, 8, 13, 9, 10, 11, 12.
+// Reads a frame, F0 to F7. Refuses 1, 2, 3, 4, 5, 6, then by its payload 7, 8, 13, 12, 9, 11; behind 2 no program byte is out of range.
 #[no_mangle]
 pub extern "C" fn dm_frame_read(bytes: &[u8]) -> ReadAnswer
     ensures { λ r. ⌜ r ≡ readAnswer (readRecord (now (bytes .entry))) (now (bytes .entry)) ⌝ }

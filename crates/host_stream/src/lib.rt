@@ -27,7 +27,7 @@ pub extern "C" fn dm_fresh(state: &mut [u8]) -> Answer
         return boundary::refused(Refusal::BadStore);
     }
     decoder_bytes::put_state(Decoder::new(), state);
-    boundary::done(14)
+    boundary::done(STATE_LEN as u64)
 }
 
 // Closes the frame and clears status and pending data, whatever the bytes hold. Refuses 20 for any other length than STATE_LEN.
@@ -40,7 +40,7 @@ pub extern "C" fn dm_reset(state: &mut [u8]) -> Answer
     }
     let d = decoder_bytes::state_of(state);
     decoder_bytes::put_state(d.reset(), state);
-    boundary::done(14)
+    boundary::done(STATE_LEN as u64)
 }
 
 // 1 while a frame is open, else 0. Refuses 20 for bytes that are no state.
@@ -55,6 +55,7 @@ pub extern "C" fn dm_in_sysex(state: &[u8]) -> Answer
     boundary::done(boundary::flag_of(d.in_sysex()) as u64)
 }
 
+// A call that used and reported nothing.
 fn refused_feed(number: u8) -> FedAnswer
     ensures { λ r. ⌜ r ≡ refusedFeed number ⌝ }
 {
