@@ -1,5 +1,7 @@
 // The words of one number.
 use crate::said;
+use channel_message::ChannelMessage;
+use channel_message::MaybeLen;
 use command::Command;
 use command::CommandAnswer;
 use ids::Bank;
@@ -14,13 +16,11 @@ use ids::ProtocolVersion;
 use ids::VersionAnswer;
 use interface::Interface;
 use interface::InterfaceAnswer;
+use real_time::MaybeRealtime;
+use real_time::Realtime;
 use refusal::Refusal;
 use wire::Channel;
 use wire::ChannelAnswer;
-use wire::ChannelMessage;
-use wire::MaybeLen;
-use wire::MaybeRealtime;
-use wire::Realtime;
 
 // A number, none, or why not.
 pub enum Small {

@@ -1,13 +1,13 @@
 // Packed runs, channel messages and identity: the words of bytes.
 use crate::line;
 use crate::said;
+use channel_message::ChannelMessage;
 use ids::DeviceAnswer;
 use ids::DeviceId;
 use inquiry::Identity;
 use inquiry::IdentityAnswer;
 use inquiry::Version;
 use wire::Channel;
-use wire::ChannelMessage;
 
 fn length(n: u64) -> usize {
     n as usize

@@ -10,11 +10,11 @@ ghost use Rattle.decoder.specs.Runs.{reach, quietRun, runState, runStore
 
 mod byte;
 
+use channel_message::ChannelMessage;
+use real_time::Realtime;
 use refusal::Refusal;
+use system_common::SystemCommon;
 use wire::Channel;
-use wire::ChannelMessage;
-use wire::Realtime;
-use wire::SystemCommon;
 
 // The frame limit: the longest frame that is kept, F0 and F7 counted.
 pub const MAX_SYSEX_LEN: usize = 2354;

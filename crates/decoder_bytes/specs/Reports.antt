@@ -2,12 +2,12 @@
 use mathlib.Core.Bool.{Bool}
 use Prim.Native.Nat.{ℕ, _+_}
 use Rattle.boundary.specs.Answer.{flag}
-use Rattle.wire.specs.declared.channel_message.ChannelMessage.{ChannelMessage}
-use Rattle.wire.specs.declared.channel_message.ChannelMessage.the-variants as m
-use Rattle.wire.specs.declared.system_common.SystemCommon.{SystemCommon}
-use Rattle.wire.specs.declared.system_common.SystemCommon.the-variants as y
-use Rattle.wire.specs.Channel.{statusNibble}
-use Rattle.wire.specs.Realtime.{realtimeByte}
+use Rattle.channel_message.specs.declared.ChannelMessage.{ChannelMessage}
+use Rattle.channel_message.specs.declared.ChannelMessage.the-variants as m
+use Rattle.system_common.specs.declared.SystemCommon.{SystemCommon}
+use Rattle.system_common.specs.declared.SystemCommon.the-variants as y
+use Rattle.channel_message.specs.Message.{statusNibble}
+use Rattle.real_time.specs.Realtime.{realtimeByte}
 use Rattle.decoder.specs.declared.Report.{Report}
 use Rattle.decoder.specs.declared.Report.the-variants as r
 use Rattle.decoder.specs.declared.MaybeReport.{MaybeReport}

@@ -1,10 +1,10 @@
 // A decoder's reports in plain numbers.
 ghost use mathlib.Core.Path.{_≡_};
 ghost use Rattle.decoder_bytes.specs.Reports.{commonStatusOf, messageFirst, messageSecond, commonValue, reportKind, reportStatus, reportFirst, reportSecond, numbersOf};
+use channel_message::ChannelMessage;
 use decoder::MaybeReport;
 use decoder::Report;
-use wire::ChannelMessage;
-use wire::SystemCommon;
+use system_common::SystemCommon;
 
 // What a call of dm_feed did. number: 0, or 20 where the state or the store is refused and nothing was used. used: how many bytes. interrupted: 1
 // where report 18 comes first. kind: the report of the last byte used, and its numbers.

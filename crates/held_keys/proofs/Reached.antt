@@ -11,7 +11,7 @@ use lib.ListN.{length, getD-replicate}
 use borrow.Author.Tests.{lt-ltb, le-ltb, ltb-true, ltb-false, eq-eqb, ne-eqb, eqb-true, eqb-false}
 use Rattle.laws.specs.Choice.{pick}
 use Rattle.laws.proofs.Tests.{split}
-use Rattle.wire.specs.declared.channel_message.ChannelMessage.the-variants as m
+use Rattle.channel_message.specs.declared.ChannelMessage.the-variants as m
 use Rattle.held_keys.specs.HeldKeys.{isHeld, stillHeld, Afterwards}
 use Rattle.held_keys.specs.Record.{Shaped, Call, fresh, afterCalls}
 use Rattle.held_keys.proofs.Keys.{none-held}

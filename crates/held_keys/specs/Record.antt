@@ -6,7 +6,7 @@ use Prim.Native.Nat.{ℕ, zero, suc, _+_, _*_, _^_, _<_}
 use lib.ListN.{length, getD, replicate}
 use Rattle.laws.specs.Choice.{pick}
 use Rattle.laws.specs.Tabulate.{tab}
-use Rattle.wire.specs.declared.channel_message.ChannelMessage.{ChannelMessage}
+use Rattle.channel_message.specs.declared.ChannelMessage.{ChannelMessage}
 use Rattle.held_keys.specs.HeldKeys.{stillHeld}
 
 -- "array of sixteen arrays, two u64 each": what the array's type says of every record

@@ -5,13 +5,12 @@ ghost use Prim.Native.Nat.{ℕ, _%_, _<_};
 ghost use lib.Dec.{eqb};
 ghost use Rattle.refusal.specs.Outcome.{counted};
 ghost use Rattle.laws.specs.Choice.{pick};
-ghost use Rattle.held_keys.specs.HeldKeys.{bit, effectOf, Afterwards, Told, countOn, firstHeld};
-ghost use Rattle.held_keys.specs.Record.{fresh};
+ghost use Rattle.held_keys.specs.HeldKeys.{bit, isHeld, effectOf, Afterwards, Told, countOn, firstHeld};
+use channel_message::ChannelMessage;
 use refusal::Count;
 use refusal::Refusal;
 use wire::CHANNEL_COUNT;
 use wire::Channel;
-use wire::ChannelMessage;
 
 // For each of 16 channels two words, a bit for each of 128 keys: key k is bit k % 64 of word k / 64.
 pub type HeldKeys = [[u64; 2]; 16];

@@ -5,10 +5,10 @@ use lib.Dec.{eqb}
 use lib.ListN.{take}
 use Rattle.laws.specs.Choice.{pick}
 use Rattle.refusal.specs.Outcome.{Outcome, gives, refused}
-use Rattle.wire.specs.declared.channel_message.ChannelMessage.{ChannelMessage}
-use Rattle.wire.specs.declared.channel_message.ChannelMessage.the-variants as m
-use Rattle.wire.specs.declared.system_common.SystemCommon.the-variants as y
-use Rattle.wire.specs.Realtime.{realtimeOf}
+use Rattle.channel_message.specs.declared.ChannelMessage.{ChannelMessage}
+use Rattle.channel_message.specs.declared.ChannelMessage.the-variants as m
+use Rattle.system_common.specs.declared.SystemCommon.the-variants as y
+use Rattle.real_time.specs.Realtime.{realtimeOf}
 use Rattle.decoder.specs.Reports.{channel, common, frame}
 use Rattle.damage.specs.History.{Told, heardRealtime}
 use Rattle.decoder_bytes.specs.declared.reports.FedAnswer.{FedAnswer}

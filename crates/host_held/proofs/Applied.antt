@@ -11,9 +11,9 @@ use Rattle.laws.proofs.Tests.{split}
 use Rattle.refusal.specs.declared.Refusal.{Refusal}
 use Rattle.refusal.specs.declared.Refusal.the-variants.{BadStore}
 use Rattle.refusal.specs.Outcome.{Outcome, gives, refused, refusal, unless}
-use Rattle.wire.specs.declared.channel_message.ChannelMessage.{ChannelMessage}
-use Rattle.wire.specs.declared.channel_message.MaybeChannelMessage.{MaybeChannelMessage}
-use Rattle.wire.specs.declared.channel_message.MaybeChannelMessage.the-variants as c
+use Rattle.channel_message.specs.declared.ChannelMessage.{ChannelMessage}
+use Rattle.channel_message.specs.declared.MaybeChannelMessage.{MaybeChannelMessage}
+use Rattle.channel_message.specs.declared.MaybeChannelMessage.the-variants as c
 use Rattle.held_keys.specs.declared.KeyAnswer.{KeyAnswer}
 use Rattle.held_keys.specs.declared.KeyAnswer.the-variants as k
 use Rattle.held_keys.specs.HeldKeys.{stillHeld, keyTold, Told, Afterwards}

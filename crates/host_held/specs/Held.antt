@@ -7,9 +7,9 @@ use lib.Dec.{eqb, ltb}
 use lib.ListN.{length, replicate}
 use Rattle.laws.specs.Choice.{pick}
 use Rattle.refusal.specs.Outcome.{Outcome, gives, refused, unless}
-use Rattle.wire.specs.declared.channel_message.ChannelMessage.{ChannelMessage}
-use Rattle.wire.specs.declared.channel_message.MaybeChannelMessage.{MaybeChannelMessage}
-use Rattle.wire.specs.declared.channel_message.MaybeChannelMessage.the-variants as c
+use Rattle.channel_message.specs.declared.ChannelMessage.{ChannelMessage}
+use Rattle.channel_message.specs.declared.MaybeChannelMessage.{MaybeChannelMessage}
+use Rattle.channel_message.specs.declared.MaybeChannelMessage.the-variants as c
 use Rattle.held_keys.specs.declared.FirstHeld.{FirstHeld}
 use Rattle.held_keys.specs.declared.FirstHeld.the-variants as f
 use Rattle.held_keys.specs.HeldKeys.{countOn, firstHeld}

@@ -4,12 +4,12 @@ ghost use Rattle.boundary.specs.Answer.{answerOf, Sends};
 ghost use Rattle.kinds.specs.Kinds.{channelKind};
 ghost use Rattle.host_held.specs.Held.{freshWrite, HeldSent, countIn, firstIn};
 use boundary::Answer;
+use channel_message::MaybeChannelMessage;
 use held_bytes::HELD_LEN;
 use held_keys::FirstHeld;
 use held_keys::KeyAnswer;
 use refusal::Refusal;
 use wire::Channel;
-use wire::MaybeChannelMessage;
 
 // The first held key. number: 0, or 20. found: 1 where a key is held, and then its channel and key.
 #[repr(C)]

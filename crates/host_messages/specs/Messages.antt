@@ -4,17 +4,17 @@ use mathlib.Core.List.{List}
 use Prim.Native.Nat.{ℕ}
 use lib.ListN.{length}
 use Rattle.refusal.specs.Outcome.{gives}
-use Rattle.wire.specs.declared.channel_message.MaybeChannelMessage.{MaybeChannelMessage}
-use Rattle.wire.specs.declared.channel_message.MaybeChannelMessage.the-variants as c
-use Rattle.wire.specs.declared.channel_message.MaybeLen.{MaybeLen}
-use Rattle.wire.specs.declared.channel_message.MaybeLen.the-variants as l
-use Rattle.wire.specs.declared.system_common.MaybeCommonStatus.{MaybeCommonStatus}
-use Rattle.wire.specs.declared.system_common.MaybeCommonStatus.the-variants as s
-use Rattle.wire.specs.declared.real_time.MaybeRealtime.{MaybeRealtime}
-use Rattle.wire.specs.declared.real_time.MaybeRealtime.the-variants as t
-use Rattle.wire.specs.Channel.{channelWrite}
-use Rattle.wire.specs.Common.{commonWrite}
-use Rattle.wire.specs.Realtime.{realtimeByte, realtimeWrite}
+use Rattle.channel_message.specs.declared.MaybeChannelMessage.{MaybeChannelMessage}
+use Rattle.channel_message.specs.declared.MaybeChannelMessage.the-variants as c
+use Rattle.channel_message.specs.declared.MaybeLen.{MaybeLen}
+use Rattle.channel_message.specs.declared.MaybeLen.the-variants as l
+use Rattle.system_common.specs.declared.MaybeCommonStatus.{MaybeCommonStatus}
+use Rattle.system_common.specs.declared.MaybeCommonStatus.the-variants as s
+use Rattle.real_time.specs.declared.MaybeRealtime.{MaybeRealtime}
+use Rattle.real_time.specs.declared.MaybeRealtime.the-variants as t
+use Rattle.channel_message.specs.Message.{channelWrite}
+use Rattle.system_common.specs.Common.{commonWrite}
+use Rattle.real_time.specs.Realtime.{realtimeByte, realtimeWrite}
 use Rattle.boundary.specs.declared.Answer.{Answer}
 use Rattle.boundary.specs.Answer.{answerOf, noRecord, Sends, Unnamed}
 

@@ -1,21 +1,21 @@
 // Channel, system common and real-time messages on the wire.
 ghost use mathlib.Core.Path.{_≡_};
 ghost use lib.ListN.{length};
-ghost use Rattle.wire.specs.Status.{channelDataLength};
-ghost use Rattle.wire.specs.Common.{commonStatus};
-ghost use Rattle.wire.specs.Realtime.{realtimeOf};
+ghost use Rattle.channel_message.specs.Message.{channelDataLength};
+ghost use Rattle.system_common.specs.Common.{commonStatus};
+ghost use Rattle.real_time.specs.Realtime.{realtimeOf};
 ghost use Rattle.kinds.specs.Kinds.{channelKind};
 ghost use Rattle.host_messages.specs.Messages.{lengthAnswer, realtimeAnswer, ChannelSent, CommonSent, RealtimeSent};
 use boundary::Answer;
+use channel_message::ChannelMessage;
+use channel_message::MaybeChannelMessage;
+use channel_message::MaybeLen;
 use kinds::of_nibble;
+use real_time::MaybeRealtime;
+use real_time::Realtime;
+use system_common::CommonStatus;
+use system_common::MaybeCommonStatus;
 use wire::Channel;
-use wire::ChannelMessage;
-use wire::CommonStatus;
-use wire::MaybeChannelMessage;
-use wire::MaybeCommonStatus;
-use wire::MaybeLen;
-use wire::MaybeRealtime;
-use wire::Realtime;
 
 // How many data bytes follow a channel status byte; NO_RECORD for any other byte.
 #[no_mangle]
@@ -33,7 +33,7 @@ pub extern "C" fn dm_data_len(status: u8) -> Answer
 pub extern "C" fn dm_realtime(byte: u8) -> Answer
     ensures { λ r. ⌜ r ≡ realtimeAnswer (realtimeOf byte) ⌝ }
 {
-    match wire::Realtime::from_status(byte) {
+    match real_time::Realtime::from_status(byte) {
         MaybeRealtime::Some(message) => boundary::done(message.to_status() as u64),
         MaybeRealtime::None => boundary::no_record(),
     }

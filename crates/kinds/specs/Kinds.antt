@@ -2,9 +2,9 @@
 use Prim.Native.Nat.{ℕ, _%_}
 use lib.Dec.{eqb}
 use Rattle.laws.specs.Choice.{pick}
-use Rattle.wire.specs.declared.channel_message.ChannelMessage.the-variants as m
-use Rattle.wire.specs.declared.channel_message.MaybeChannelMessage.{MaybeChannelMessage}
-use Rattle.wire.specs.declared.channel_message.MaybeChannelMessage.the-variants as c
+use Rattle.channel_message.specs.declared.ChannelMessage.the-variants as m
+use Rattle.channel_message.specs.declared.MaybeChannelMessage.{MaybeChannelMessage}
+use Rattle.channel_message.specs.declared.MaybeChannelMessage.the-variants as c
 
 -- a channel message by its status nibble (80, 90 .. E0) and two numbers: a bend is the first of them whole, every other message has
 -- the first's low byte and the second

@@ -1,8 +1,8 @@
 // A channel message from plain numbers, as a C host gives them.
 ghost use mathlib.Core.Path.{_≡_};
 ghost use Rattle.kinds.specs.Kinds.{channelKind};
-use wire::ChannelMessage;
-use wire::MaybeChannelMessage;
+use channel_message::ChannelMessage;
+use channel_message::MaybeChannelMessage;
 
 // The message of a status nibble and its data: a is the whole of a bend, and the first data byte of every other message.
 pub fn of_nibble(nibble: u8, a: u16, b: u8) -> MaybeChannelMessage

@@ -8,9 +8,9 @@ use Rattle.refusal.specs.Outcome.{gives, refused}
 use Rattle.ids.specs.declared.DeviceId.the-variants as d
 use Rattle.packed.specs.Packed.{packed, unpacked, unpackedLengthOf}
 use Rattle.packed.proofs.Rows.{row-a, row-b, row-c, row-d, row-e}
-use Rattle.wire.specs.declared.channel_message.ChannelMessage.the-variants as w
-use Rattle.wire.specs.declared.system_common.SystemCommon.the-variants as y
-use Rattle.wire.specs.declared.real_time.Realtime.the-variants as t
+use Rattle.channel_message.specs.declared.ChannelMessage.the-variants as w
+use Rattle.system_common.specs.declared.SystemCommon.the-variants as y
+use Rattle.real_time.specs.declared.Realtime.the-variants as t
 use Rattle.decoder.specs.State.{limit, fresh}
 use Rattle.decoder.specs.Reports.{channel, common, realtime, frame}
 use Rattle.damage.specs.Calls.{singly}

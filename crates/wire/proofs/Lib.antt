@@ -1,3 +1,2 @@
-pub mod Bytes
+pub mod Stores
 pub mod DataLength
-pub mod ReadBack

@@ -1,4 +1,2 @@
 pub mod Status
 pub mod Channel
-pub mod Common
-pub mod Realtime

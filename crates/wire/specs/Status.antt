@@ -3,8 +3,6 @@ use Prim.Native.Nat.{ℕ}
 use lib.Dec.{ltb, eqb, leb}
 use mathlib.Core.Bool.{Bool, _&&_}
 use Rattle.laws.specs.Choice.{pick}
-use Rattle.wire.specs.declared.channel_message.MaybeLen.{MaybeLen}
-use Rattle.wire.specs.declared.channel_message.MaybeLen.the-variants as m
 
 -- note off, note on, key pressure and control change (80 to BF): 2; program change and channel pressure (C0 to DF): 1;
 -- pitch bend (E0 to EF): 2; F1: 1; F2: 2; F3: 1. Every other of the 256 values takes none: a data byte is no status, a frame
@@ -22,7 +20,3 @@ dataLength b =
 -- a channel status byte: 80 to EF
 abbrev pub isChannelStatus : ℕ → Bool
 isChannelStatus b = leb 0x80 b && ltb b 0xF0
-
--- the same, asked of channel status bytes alone
-abbrev pub channelDataLength : ℕ → MaybeLen
-channelDataLength b = pick (isChannelStatus b) (m.Some (dataLength b)) m.None

@@ -1,4 +1,5 @@
-// MIDI messages on the wire: channel, system common and real-time, to bytes and from bytes.
+// What the MIDI messages on the wire share: channels, how many data bytes a status byte takes, fourteen bits from two bytes, and
+// the writing of one to three bytes.
 ghost use mathlib.Core.Path.{_≡_};
 ghost use mathlib.Core.List.{[], _∷_};
 ghost use Prim.Native.Nat.{_+_, _*_, _≤_};
@@ -6,22 +7,8 @@ ghost use lib.ListN.{length, take};
 ghost use Rattle.refusal.specs.Outcome.{Writes, withRoom};
 ghost use Rattle.wire.specs.Status.{dataLength};
 ghost use Rattle.wire.specs.Channel.{channelOf, channelTold};
-
-pub mod channel_message;
-pub mod real_time;
-pub mod system_common;
-
-pub use channel_message::ChannelMessage;
-pub use channel_message::MaybeChannelMessage;
-pub use channel_message::MaybeLen;
-pub use real_time::MaybeRealtime;
-pub use real_time::Realtime;
 use refusal::Count;
 use refusal::Refusal;
-pub use system_common::CommonStatus;
-pub use system_common::MaybeCommonStatus;
-pub use system_common::MaybeSystemCommon;
-pub use system_common::SystemCommon;
 
 pub const SYSEX_START: u8 = 0xF0;
 
@@ -97,14 +84,27 @@ pub fn data_len(status: u8) -> usize
 }
 
 // Fourteen bits from two data bytes, low seven first.
-fn bend(low: u8, high: u8) -> u16
+pub fn bend(low: u8, high: u8) -> u16
     ensures { λ r. ⌜ r ≡ low + 128 * high ⌝ }
 {
     (low as u16) + 128 * (high as u16)
 }
 
 // The first bytes of three, to the front of a buffer; 14 where they do not fit.
-fn put(out: &mut [u8], needed: usize, a: u8, b: u8, d: u8) -> Count
+pub fn put(out: &mut [u8], count: usize, a: u8, b: u8, d: u8) -> Count
+    ensures { λ r. ⌜ Writes (withRoom (length (now (out .entry))) (take count (a ∷ b ∷ d ∷ []))) r (now (out .entry)) (now (out .exit)) ⌝ }
+{
+    if count == 0 {
+        return Count::Ok(0);
+    }
+    if count < 3 {
+        return put_some(out, count, a, b, d);
+    }
+    put_some(out, 3, a, b, d)
+}
+
+// The same for one to three of them.
+fn put_some(out: &mut [u8], needed: usize, a: u8, b: u8, d: u8) -> Count
     requires { ⌜ (1 ≤ needed) × (needed ≤ 3) ⌝ }
     ensures { λ r. ⌜ Writes (withRoom (length (now (out .entry))) (take needed (a ∷ b ∷ d ∷ []))) r (now (out .entry)) (now (out .exit)) ⌝ }
 {

@@ -1,7 +1,7 @@
 -- `dm_channel_write` meets its contract: a named kind is written by the call below it, another leaves every byte.
 use Rattle.boundary.proofs.Answers.{writer-told}
 use Rattle.host_messages.specs.Messages.{ChannelSent}
-use Rattle.wire.specs.declared.channel_message.MaybeChannelMessage.{MaybeChannelMessage}
+use Rattle.channel_message.specs.declared.MaybeChannelMessage.{MaybeChannelMessage}
 use mathlib.Core.Path.{refl, subst, sym, _∙_}
 use borrow.Author.Needs.{needs}
 use Rattle.host_messages.proofs.dm_channel_write.Statement.{statement}

@@ -1,7 +1,7 @@
 -- `dm_common_write` meets its contract: a named kind is written by the call below it, another leaves every byte.
 use Rattle.boundary.proofs.Answers.{writer-told}
 use Rattle.host_messages.specs.Messages.{CommonSent}
-use Rattle.wire.specs.declared.system_common.MaybeCommonStatus.{MaybeCommonStatus}
+use Rattle.system_common.specs.declared.MaybeCommonStatus.{MaybeCommonStatus}
 use mathlib.Core.Path.{refl, subst, sym, _∙_}
 use borrow.Author.Needs.{needs}
 use Rattle.host_messages.proofs.dm_common_write.Statement.{statement}

@@ -1,7 +1,7 @@
 -- `dm_realtime_write` meets its contract: a named kind is written by the call below it, another leaves every byte.
 use Rattle.boundary.proofs.Answers.{writer-told}
 use Rattle.host_messages.specs.Messages.{RealtimeSent}
-use Rattle.wire.specs.declared.real_time.MaybeRealtime.{MaybeRealtime}
+use Rattle.real_time.specs.declared.MaybeRealtime.{MaybeRealtime}
 use mathlib.Core.Path.{refl, subst, sym, _∙_}
 use borrow.Author.Needs.{needs}
 use Rattle.host_messages.proofs.dm_realtime_write.Statement.{statement}

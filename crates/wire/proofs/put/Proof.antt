@@ -1,64 +1,44 @@
--- `put` meets its contract: it stores as many of the three bytes as are needed, one after another, once there is room for them.
-use lib.ListN.{set, take}
-use lib.ListN.{set}
-use Rattle.wire.proofs.Bytes.{put-stores}
-use Rattle.refusal.proofs.Written.{no-room}
-use Rattle.refusal.proofs.Written.{no-room}
-use lib.Seq.{length-take-le}
-use lib.ListN.{length-set}
+-- `put` meets its contract: of none it writes nothing, and of more than three it writes the three.
+use Rattle.wire.proofs.Stores.{put-stores, all-three}
+use Rattle.refusal.proofs.Written.{same-bytes}
 use native.Mathlib.Omega.{arith}
-use mathlib.Core.List.{[], _∷_}
-use mathlib.Core.Path.{_≡_}
+use mathlib.Core.Path.{refl}
 use borrow.Author.Needs.{needs}
 use Rattle.wire.proofs.put.Statement.{statement}
 use Rattle.wire.proofs.put.Tie as tie
 
 returns : tie.Need-returns
-returns c = let a = c .before .args in
-    no-room (take (a .needed) (a .a ∷ a .b ∷ a .d ∷ [])) (a .out .now) (a .needed) (length-take-le (a .needed) (a .a ∷ a .b ∷ a .d ∷ []) (omega arith)) (c .if1 .taken)
+returns c = let a = c .before .before .args in
+    rw (c .if1 .taken) (put-stores 0 (a .a) (a .b) (a .d) (a .out .now) (a .out .now) (omega arith) (omega arith) refl)
 
-slice-write-out : tie.Need-slice-write-out
-slice-write-out c = search needs
+put-some-requires : tie.Need-put-some-requires
+put-some-requires c κs = search needs
 
 same-length : tie.Need-same-length
 same-length c = search needs
 
 returns-2 : tie.Need-returns-2
-returns-2 c = let a = c .before .before .args in
-    put-stores (a .needed) (a .a) (a .b) (a .d) (a .out .now) (set (a .out .now) 0 (a .a)) (omega arith) (omega arith) (rw (c .if2 .taken))
+returns-2 c = search needs
 
-slice-write-out-2 : tie.Need-slice-write-out-2
-slice-write-out-2 c = simp length-set (omega arith)
+put-some-requires-2 : tie.Need-put-some-requires-2
+put-some-requires-2 c κs = search needs
 
 same-length-2 : tie.Need-same-length-2
 same-length-2 c = search needs
 
 returns-3 : tie.Need-returns-3
-returns-3 c = let a = c .before .before .before .args in
-    put-stores (a .needed) (a .a) (a .b) (a .d) (a .out .now) (set (set (a .out .now) 0 (a .a)) 1 (a .b)) (omega arith) (omega arith) (rw (c .if3 .taken))
-
-slice-write-out-3 : tie.Need-slice-write-out-3
-slice-write-out-3 c = simp length-set (omega arith)
-
-same-length-3 : tie.Need-same-length-3
-same-length-3 c = search needs
-
-returns-4 : tie.Need-returns-4
-returns-4 c = let a = c .before .before .before .args in
-    let three : a .needed ≡ 3 = omega arith in
-    put-stores (a .needed) (a .a) (a .b) (a .d) (a .out .now) (set (set (set (a .out .now) 0 (a .a)) 1 (a .b)) 2 (a .d)) (omega arith) (omega arith) (rw three)
+returns-3 c = let a = c .before .before .before .before .before .before .before .args in
+    let p = c .before .before .put-some2 in
+    same-bytes _ _ (p .result) (a .out .now) (p .last .0) (all-three (a .count) (a .a) (a .b) (a .d) (omega arith)) (p .ensures)
 
 pub put-spec : {M : Type 1} → statement M
 put-spec =
     tie.close
     (tie.spec
     returns
-    slice-write-out
+    put-some-requires
     same-length
     returns-2
-    slice-write-out-2
+    put-some-requires-2
     same-length-2
-    returns-3
-    slice-write-out-3
-    same-length-3
-    returns-4)
+    returns-3)
