@@ -24,7 +24,8 @@ use Rattle.framing.proofs.Bytes.{same-is, no-high}
 use Rattle.fields.specs.declared.Fields.{Fields}
 use Rattle.fields.specs.Wire.{carriesRun, optional, fieldList, fieldsAt, fieldFits, fieldRefusal, fieldOk, allFit, checked}
 use Rattle.frame_reader.specs.declared.Record.{Record}
-use Rattle.frame_reader.specs.Reader.{accepted, numberedBy, prefixLength, early, isAny, whenRun, readFields, readShort, readRun, readDump, readPayload, payload, maker, readCommand, readHeader, readRecord}
+use Rattle.payload_reader.specs.Payload.{accepted, numberedBy, prefixLength, early, isAny, whenRun, readFields, readShort, readRun, readDump, readPayload}
+use Rattle.frame_reader.specs.Reader.{payload, maker, readCommand, readHeader, readRecord}
 
 -- fields that were given all fit, and are the ones that were read
 pub all-fit : {A : Type 0} (l : List Field) (p : List ℕ) (i : ℕ) (a b : A) → checked l p i (gives a) ≡ gives b → (allFit l p i ≡ true) × (a ≡ b)

@@ -1,3 +1,3 @@
-pub mod Tests
+pub mod Parts
 pub mod Accepted
 pub mod RunPlace

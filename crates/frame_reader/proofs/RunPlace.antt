@@ -17,8 +17,9 @@ use Rattle.command.specs.Payload.{payloadOf}
 use Rattle.fields.specs.declared.Fields.{Fields}
 use Rattle.fields.specs.Wire.{optional, fieldList}
 use Rattle.frame_reader.specs.declared.Record.{Record}
-use Rattle.frame_reader.specs.Reader.{numberedBy, prefixLength, payload}
-use Rattle.frame_reader.proofs.Tests.{numbered-short, optional-is}
+use Rattle.payload_reader.specs.Payload.{numberedBy, prefixLength}
+use Rattle.frame_reader.specs.Reader.{payload}
+use Rattle.payload_reader.proofs.Tests.{numbered-short}
 use Rattle.frame_reader.proofs.Accepted.{Described}
 
 -- dropping from a part of a list

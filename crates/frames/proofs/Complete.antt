@@ -21,9 +21,9 @@ use Rattle.framing.specs.Framing.{sameBytes}
 use Rattle.fields.specs.declared.Fields.{Fields}
 use Rattle.fields.specs.Wire.{carriesRun, optional, fieldList, fieldsAt, allFit}
 use Rattle.frame_reader.specs.declared.Record.{Record}
-use Rattle.frame_reader.specs.Reader.{accepted, numberedBy, prefixLength, early, isAny, whenRun, versionIn, readFields, readShort, readRun, readDump, readPayload, payload, maker, readRecord}
-use Rattle.fields.proofs.ByKind.{version-leads}
-use Rattle.frame_reader.proofs.Accepted.{Payload, Described, runFits, described, fit-given, no-option}
+use Rattle.payload_reader.specs.Payload.{accepted, numberedBy, prefixLength, early, isAny, whenRun, versionIn, readFields, readShort, readRun, readDump, readPayload}
+use Rattle.frame_reader.specs.Reader.{payload, maker, readRecord}
+use Rattle.frame_reader.proofs.Accepted.{Payload, Described, runFits, described, fit-given}
 
 -- a dump's first byte is its version
 version-fits : (c : Command) (b : Bool) (p : List ℕ) → carriesRun c ≡ true → allFit (fieldList c b) p 0 ≡ true → versionIn p ≡ true

@@ -22,7 +22,8 @@ use Rattle.fields.specs.Fields.{notifyFields}
 use Rattle.message.specs.Head.{commandOfHead, fieldsOf, headFrom}
 use Rattle.fields.specs.Wire.{fieldList, fieldsAt, allFit}
 use Rattle.frame_reader.specs.declared.Record.{Record}
-use Rattle.frame_reader.specs.Reader.{numberedBy, payload, readRecord, frameOf, parsed, runOf}
+use Rattle.payload_reader.specs.Payload.{numberedBy}
+use Rattle.frame_reader.specs.Reader.{payload, readRecord, frameOf, parsed, runOf}
 use Rattle.frame_reader.proofs.Accepted.{Described, described}
 use Rattle.frame_writer.specs.Writer.{fieldsWrite, frameWrite}
 use Rattle.frames.proofs.RoundTrip.{written-again}

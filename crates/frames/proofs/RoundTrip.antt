@@ -26,8 +26,9 @@ use Rattle.framing.proofs.Bytes.{spelled, high-none-behind}
 use Rattle.fields.specs.declared.Fields.{Fields}
 use Rattle.fields.specs.Wire.{carriesRun, fieldList, fieldsAt, wire, prefixOf, allFit, fieldFits, checkedFields}
 use Rattle.frame_reader.specs.declared.Record.{Record}
-use Rattle.frame_reader.specs.Reader.{numberedBy, prefixLength, payload, maker, readRecord, runIn, runOf}
-use Rattle.frame_reader.proofs.Accepted.{Described, described, fit-given, no-option}
+use Rattle.payload_reader.specs.Payload.{numberedBy, prefixLength}
+use Rattle.frame_reader.specs.Reader.{payload, maker, readRecord, runIn, runOf}
+use Rattle.frame_reader.proofs.Accepted.{Described, described, fit-given}
 use Rattle.frame_reader.proofs.RunPlace.{own-list, length-payload, prefix-there}
 use Rattle.frame_writer.specs.Writer.{header, row, ownRun, recordWrite}
 

@@ -12,7 +12,8 @@ use Rattle.decoder.specs.Step.{classOf, step, stored}
 use Rattle.decoder.specs.Call.{walk}
 use Rattle.damage.proofs.Rows.{blank}
 use Rattle.frame_reader.specs.declared.Record.{Record}
-use Rattle.frame_reader.specs.Reader.{readRecord, readRun}
+use Rattle.payload_reader.specs.Payload.{readRun}
+use Rattle.frame_reader.specs.Reader.{readRecord}
 
 -- a names dump to unit 0, version 7, bank 0, with a run of n bytes 00
 abbrev pub names : ℕ → List ℕ

@@ -1,5 +1,5 @@
 -- `read_header` meets its contract: length, maker and model, device, command and payload, each by its own test.
-use Rattle.frame_reader.proofs.Tests.{payload-part}
+use Rattle.frame_reader.proofs.Parts.{payload-part}
 use borrow.Author.Tests.{le-leb, lt-leb, not-true, not-false}
 use mathlib.Core.Path.{sym, _∙_}
 use borrow.Author.Needs.{needs}

@@ -1,5 +1,5 @@
 -- `read_record` meets its contract: framing, then the first high byte, then the rest.
-use Rattle.frame_reader.proofs.Tests.{framed-long, body-part}
+use Rattle.frame_reader.proofs.Parts.{framed-long, body-part}
 use Rattle.frame_reader.specs.Reader.{readRecord}
 use borrow.Author.Tests.{not-true, not-false}
 use native.Mathlib.Omega.{arith}

@@ -1,10 +1,10 @@
 -- `holds` meets its contract: by what the run unpacks to.
-use Rattle.frame_reader.proofs.Tests.{not-unpacked, holds-too-little, holds-enough}
+use Rattle.payload_reader.proofs.Tests.{not-unpacked, holds-too-little, holds-enough}
 use Rattle.refusal.specs.Outcome.{counted}
 use mathlib.Core.Path.{ap, sym, _∙_}
 use borrow.Author.Needs.{needs}
-use Rattle.frame_reader.proofs.holds.Statement.{statement}
-use Rattle.frame_reader.proofs.holds.Tie as tie
+use Rattle.payload_reader.proofs.holds.Statement.{statement}
+use Rattle.payload_reader.proofs.holds.Tie as tie
 
 unpacked-len-requires : tie.Need-unpacked-len-requires
 unpacked-len-requires c κs = search needs

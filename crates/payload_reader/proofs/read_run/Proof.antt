@@ -2,8 +2,8 @@
 use borrow.Author.Tests.{eq-eqb, ne-eqb}
 use Rattle.packed.specs.Packed.{unpackedLength}
 use Rattle.refusal.proofs.Given.{refused-too}
-use Rattle.frame_reader.proofs.Tests.{fields-tested, run-too-short, any-run, run-accepted, run-numbered, run-refused, raw-small}
-use Rattle.frame_reader.specs.Reader.{prefixLength, accepted, numberedBy}
+use Rattle.payload_reader.proofs.Tests.{fields-tested, run-too-short, any-run, run-accepted, run-numbered, run-refused, raw-small}
+use Rattle.payload_reader.specs.Payload.{prefixLength, accepted, numberedBy}
 use Rattle.fields.specs.Wire.{smallChecked}
 use Rattle.packed.proofs.Lengths.{unpacked-given}
 use Rattle.command.specs.Payload.{rawLengthFor}
@@ -19,8 +19,8 @@ use mathlib.Core.Logic.{⊎-elim}
 use mathlib.Core.Bool.{true, false, not, _&&_}
 use mathlib.Core.Path.{_≡_, ap, sym, _∙_}
 use borrow.Author.Needs.{needs}
-use Rattle.frame_reader.proofs.read_run.Statement.{statement}
-use Rattle.frame_reader.proofs.read_run.Tie as tie
+use Rattle.payload_reader.proofs.read_run.Statement.{statement}
+use Rattle.payload_reader.proofs.read_run.Tie as tie
 
 to-byte-requires : tie.Need-to-byte-requires
 to-byte-requires c κs = search needs

@@ -1,8 +1,8 @@
 -- `read_payload` meets its contract: with a run or without.
 use mathlib.Core.Path.{sym, _∙_}
 use borrow.Author.Needs.{needs}
-use Rattle.frame_reader.proofs.read_payload.Statement.{statement}
-use Rattle.frame_reader.proofs.read_payload.Tie as tie
+use Rattle.payload_reader.proofs.read_payload.Statement.{statement}
+use Rattle.payload_reader.proofs.read_payload.Tie as tie
 
 carries-run-requires : tie.Need-carries-run-requires
 carries-run-requires c κs = search needs

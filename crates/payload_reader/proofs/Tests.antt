@@ -5,8 +5,8 @@ use mathlib.Core.List.{List, [], _∷_}
 use Prim.Native.Nat.{ℕ, _+_, _-_, _%_, _≤_, _<_}
 use native.Mathlib.Omega.{arith}
 use lib.Dec.{ltb, leb, eqb}
-use lib.ListN.{length, getD, take, drop}
-use borrow.Author.Tests.{le-leb, lt-leb, lt-ltb, le-ltb, eq-eqb, ne-eqb, eqb-true, ltb-true, ltb-false, leb-true}
+use lib.ListN.{length, getD}
+use borrow.Author.Tests.{le-leb, lt-leb, lt-ltb, le-ltb, eq-eqb, ne-eqb, ltb-true, ltb-false}
 use Rattle.laws.specs.Choice.{pick}
 use Rattle.refusal.specs.declared.Refusal.{Refusal}
 use Rattle.refusal.specs.Refusal.{numberOf, valuesOf}
@@ -20,11 +20,9 @@ use Rattle.command.specs.Payload.{Run, payloadOf, runLength, rawLengthFor}
 use Rattle.command.proofs.Table.{same-code, of-every}
 use Rattle.packed.specs.Packed.{unpackedLength, unpackedLengthOf, packedLength}
 use Rattle.packed.proofs.Lengths.{unpacked-given}
-use Rattle.laws.proofs.Tests.{both, by-test, split, alike, alike-same}
-use Rattle.framing.specs.Framing.{framed, body}
 use Rattle.fields.specs.Wire.{carriesRun, optional, fieldsAt, fieldOk, smallChecked}
 use Rattle.fields.proofs.ByKind.{checked-by-kind, version-first}
-use Rattle.frame_reader.specs.Reader.{accepted, numberedBy, prefixLength, early, whenLength, readFields, isAny, versionIn, readRun, payload}
+use Rattle.payload_reader.specs.Payload.{accepted, numberedBy, prefixLength, early, wrongLength, readFields, isAny, versionIn, readRun}
 
 -- lengths that do not unpack are not accepted
 pub not-unpacked : (raw n : ℕ) (e : Refusal) → refusal e ≡ unpackedLengthOf n → false ≡ accepted raw n
@@ -139,22 +137,3 @@ early-one c = go (eqb (codeOf c) 0x0B || eqb (codeOf c) 0x0D)
     go : (t : Bool) → 1 ≤ pick t 2 1
     go true = omega arith
     go false = omega arith
-
--- a framed list has two bytes
-pub framed-long : (bytes : List ℕ) → framed bytes ≡ true → 2 ≤ length bytes
-framed-long bytes h =
-    let start : Bool = eqb (getD bytes 0 0) 0xF0 in
-    let end : Bool = eqb (getD bytes (length bytes - 1) 0) 0xF7 in
-    leb-true 2 (length bytes) (both (leb 2 (length bytes)) start (both (leb 2 (length bytes) && start) end h .0) .0)
-
--- the part between the ends, as the code takes it
-pub body-part : (bytes : List ℕ) → take (length bytes - 1 - 1) (drop 1 bytes) ≡ body bytes
-body-part bytes =
-    let e : length bytes - 1 - 1 ≡ length bytes - 2 = omega arith in
-    rw e
-
--- and the payload
-pub payload-part : (bytes : List ℕ) → take (length bytes - 1 - 7) (drop 7 bytes) ≡ payload bytes
-payload-part bytes =
-    let e : length bytes - 1 - 7 ≡ length bytes - 8 = omega arith in
-    rw e

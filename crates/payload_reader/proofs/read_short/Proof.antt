@@ -1,15 +1,15 @@
 -- `read_short` meets its contract: length, then fields.
 use Rattle.fields.specs.Wire.{smallChecked}
-use Rattle.frame_reader.proofs.Tests.{fields-untested}
-use Rattle.frame_reader.specs.Reader.{prefixLength}
+use Rattle.payload_reader.proofs.Tests.{fields-untested}
+use Rattle.payload_reader.specs.Payload.{prefixLength}
 use Rattle.command.specs.declared.Row.{Row}
 use lib.ListN.{length}
 use borrow.Author.Tests.{eq-eqb, ne-eqb}
 use mathlib.Core.Bool.{false}
 use mathlib.Core.Path.{_≡_, ap, sym, _∙_}
 use borrow.Author.Needs.{needs}
-use Rattle.frame_reader.proofs.read_short.Statement.{statement}
-use Rattle.frame_reader.proofs.read_short.Tie as tie
+use Rattle.payload_reader.proofs.read_short.Statement.{statement}
+use Rattle.payload_reader.proofs.read_short.Tie as tie
 
 row-requires : tie.Need-row-requires
 row-requires c κs = search needs

@@ -1,7 +1,7 @@
 -- `read_dump` meets its contract: what has to be there, then the version, then the rest.
-use Rattle.frame_reader.proofs.Tests.{early-one}
+use Rattle.payload_reader.proofs.Tests.{early-one}
 use Rattle.fields.proofs.ByKind.{version-refused, version-passed}
-use Rattle.frame_reader.specs.Reader.{prefixLength, early, readRun}
+use Rattle.payload_reader.specs.Payload.{prefixLength, early, readRun}
 use Rattle.ids.proofs.Range.{version-in-range}
 use Rattle.ids.specs.Small.{versionTold}
 use Rattle.command.specs.declared.Row.{Row}
@@ -11,8 +11,8 @@ use native.Mathlib.Omega.{arith}
 use Prim.Native.Nat.{ℕ, _≤_}
 use mathlib.Core.Path.{_≡_, ap, sym, _∙_}
 use borrow.Author.Needs.{needs}
-use Rattle.frame_reader.proofs.read_dump.Statement.{statement}
-use Rattle.frame_reader.proofs.read_dump.Tie as tie
+use Rattle.payload_reader.proofs.read_dump.Statement.{statement}
+use Rattle.payload_reader.proofs.read_dump.Tie as tie
 
 early-len-requires : tie.Need-early-len-requires
 early-len-requires c κs = search needs

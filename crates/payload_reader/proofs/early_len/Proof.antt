@@ -2,8 +2,8 @@
 use mathlib.Core.Path.{sym, _∙_}
 use borrow.Author.Tests.{eq-eqb, ne-eqb}
 use borrow.Author.Needs.{needs}
-use Rattle.frame_reader.proofs.early_len.Statement.{statement}
-use Rattle.frame_reader.proofs.early_len.Tie as tie
+use Rattle.payload_reader.proofs.early_len.Statement.{statement}
+use Rattle.payload_reader.proofs.early_len.Tie as tie
 
 to-byte-requires : tie.Need-to-byte-requires
 to-byte-requires c κs = search needs

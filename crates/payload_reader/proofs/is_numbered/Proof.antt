@@ -1,9 +1,9 @@
 -- `is_numbered` meets its contract: the reading without a number is tried first.
-use Rattle.frame_reader.proofs.Tests.{numbered-short}
+use Rattle.payload_reader.proofs.Tests.{numbered-short}
 use mathlib.Core.Path.{sym, _∙_}
 use borrow.Author.Needs.{needs}
-use Rattle.frame_reader.proofs.is_numbered.Statement.{statement}
-use Rattle.frame_reader.proofs.is_numbered.Tie as tie
+use Rattle.payload_reader.proofs.is_numbered.Statement.{statement}
+use Rattle.payload_reader.proofs.is_numbered.Tie as tie
 
 returns : tie.Need-returns
 returns c = numbered-short (c .before .args .found) (c .if1 .taken)

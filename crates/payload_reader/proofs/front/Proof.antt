@@ -2,8 +2,8 @@
 use Rattle.fields.proofs.ByKind.{fields-five}
 use mathlib.Core.Path.{_∙_}
 use borrow.Author.Needs.{needs}
-use Rattle.frame_reader.proofs.front.Statement.{statement}
-use Rattle.frame_reader.proofs.front.Tie as tie
+use Rattle.payload_reader.proofs.front.Statement.{statement}
+use Rattle.payload_reader.proofs.front.Tie as tie
 
 byte-at-requires : tie.Need-byte-at-requires
 byte-at-requires c κs = search needs
