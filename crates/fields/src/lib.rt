@@ -1,11 +1,6 @@
-// Every field of the 22 messages as plain numbers, and the payload bytes that stand ahead of a packed run.
+// Every field of the 22 messages as plain numbers.
 ghost use mathlib.Core.Path.{_≡_};
 ghost use Rattle.fields.specs.Fields.{freeFields, requestFields, dumpFields, patternFields, notifyFields};
-
-pub mod payload;
-
-pub use payload::FieldsAnswer;
-pub use payload::Prefix;
 
 // Every field that a message can have, as plain numbers; what a message lacks is 0.
 pub struct Fields {

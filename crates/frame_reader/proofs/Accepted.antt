@@ -22,7 +22,7 @@ use Rattle.framing.specs.declared.MaybeByte.the-variants as m
 use Rattle.framing.specs.Framing.{framed, body, firstHigh, whenSevenBit, sameBytes}
 use Rattle.framing.proofs.Bytes.{same-is, no-high}
 use Rattle.fields.specs.declared.Fields.{Fields}
-use Rattle.fields.specs.Wire.{carriesRun, optional, fieldList, fieldsAt, fieldFits, fieldRefusal, fieldOk, allFit, checked}
+use Rattle.payload.specs.Wire.{carriesRun, optional, fieldList, fieldsAt, fieldFits, fieldRefusal, fieldOk, allFit, checked}
 use Rattle.frame_reader.specs.declared.Record.{Record}
 use Rattle.payload_reader.specs.Payload.{accepted, numberedBy, prefixLength, early, isAny, whenRun, readFields, readShort, readRun, readDump, readPayload}
 use Rattle.frame_reader.specs.Reader.{payload, maker, readCommand, readHeader, readRecord}

@@ -15,7 +15,7 @@ use Rattle.command.specs.declared.Command.{Command}
 use Rattle.command.specs.Payload as y
 use Rattle.command.specs.Payload.{payloadOf}
 use Rattle.fields.specs.declared.Fields.{Fields}
-use Rattle.fields.specs.Wire.{optional, fieldList}
+use Rattle.payload.specs.Wire.{optional, fieldList}
 use Rattle.frame_reader.specs.declared.Record.{Record}
 use Rattle.payload_reader.specs.Payload.{numberedBy, prefixLength}
 use Rattle.frame_reader.specs.Reader.{payload}

@@ -13,7 +13,7 @@ use Rattle.command.specs.Command.{commandOf}
 use Rattle.framing.specs.Framing.{whenFramed, whenSevenBit, body, sameBytes}
 use Rattle.message.specs.declared.head.Frame.{Frame}
 use Rattle.message.specs.Head.{headFrom}
-use Rattle.fields.specs.Wire.{carriesRun, fieldList}
+use Rattle.payload.specs.Wire.{carriesRun, fieldList}
 use Rattle.payload_reader.specs.Payload.{readPayload}
 use Rattle.frame_reader.specs.declared.Record.{Record}
 use Rattle.frame_reader.specs.declared.RecordAnswer.{RecordAnswer}

@@ -5,12 +5,12 @@ ghost use Rattle.frame_reader.specs.Reader.{readHeader, readRecord, reco
 use command::Command;
 use command::CommandAnswer;
 use fields::Fields;
-use fields::FieldsAnswer;
 use ids::DeviceAnswer;
 use ids::DeviceId;
 use message::Frame;
 use message::FrameAnswer;
 use message::Head;
+use payload::FieldsAnswer;
 use refusal::Refusal;
 
 // What a frame says as plain fields; its run lies beside it, in the caller's bytes.
@@ -102,10 +102,10 @@ pub fn run_of(bytes: &[u8]) -> &[u8]
         RecordAnswer::Ok(record) => {
             let command = record.command;
             let fields = record.fields;
-            if !fields::payload::carries_run(command) {
+            if !payload::carries_run(command) {
                 return &bytes[0..0];
             }
-            let start = 7 + fields::payload::prefix_of(command, fields).len;
+            let start = 7 + payload::prefix_of(command, fields).len;
             let end = bytes.len() - 1;
             &bytes[start..end]
         }

@@ -18,7 +18,7 @@ use Rattle.ids.specs.Device.{deviceByte}
 use Rattle.command.specs.declared.Command.{Command}
 use Rattle.command.specs.Command.{codeOf}
 use Rattle.fields.specs.declared.Fields.{Fields}
-use Rattle.fields.specs.Wire.{carriesRun, prefixOf, checkedFields}
+use Rattle.payload.specs.Wire.{carriesRun, prefixOf, checkedFields}
 use Rattle.framing.specs.declared.MaybeByte.the-variants as m
 use Rattle.framing.specs.Framing.{firstHigh}
 use Rattle.frame_writer.specs.Writer.{row, ownRun, lengthFor, sevenBitWrite, roomWrite, fieldsWrite}

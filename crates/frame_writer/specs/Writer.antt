@@ -15,7 +15,7 @@ use Rattle.fields.specs.declared.Fields.{Fields}
 use Rattle.message.specs.declared.head.Head.{Head}
 use Rattle.message.specs.declared.head.Frame.{Frame}
 use Rattle.message.specs.Head.{commandOfHead, fieldsOf}
-use Rattle.fields.specs.Wire.{carriesRun, prefixOf, checkedFields}
+use Rattle.payload.specs.Wire.{carriesRun, prefixOf, checkedFields}
 
 -- "Row: F0 00 20 32 20, device, command, payload, F7"
 abbrev pub header : ℕ → ℕ → List ℕ

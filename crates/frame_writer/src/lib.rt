@@ -9,11 +9,11 @@ ghost use Rattle.frame_writer.specs.Writer.{lengthFor, headLength, heade
 use command::Command;
 use command::CommandAnswer;
 use fields::Fields;
-use fields::FieldsAnswer;
 use framing::MaybeByte;
 use ids::DeviceId;
 use message::Frame;
 use message::Head;
+use payload::FieldsAnswer;
 use refusal::Count;
 use refusal::Refusal;
 
@@ -28,7 +28,7 @@ fn frame_len(command: Command, prefix_len: usize, run_len: usize) -> Count
     ensures { λ r. ⌜ counted r ≡ lengthFor command «prefix_len» «run_len» ⌝ }
 {
     let fixed = OVERHEAD_LEN + prefix_len;
-    if !fields::payload::carries_run(command) {
+    if !payload::carries_run(command) {
         return Count::Ok(fixed);
     }
     if 0xFFFF_FFFF_FFFF_FFFF - fixed < run_len {
@@ -42,7 +42,7 @@ pub fn encoded_len(head: Head, run_len: usize) -> Count
     ensures { λ r. ⌜ counted r ≡ headLength head «run_len» ⌝ }
 {
     let command = head.command();
-    let prefix = fields::payload::prefix_of(command, head.to_fields());
+    let prefix = payload::prefix_of(command, head.to_fields());
     frame_len(command, prefix.len, run_len)
 }
 
@@ -106,10 +106,10 @@ fn write_fields(
 ) -> Count
     ensures { λ r. ⌜ Writes (fieldsWrite device command fields (now (run .entry)) (length (now (out .entry)))) r (now (out .entry)) (now (out .exit)) ⌝ }
 {
-    match fields::payload::check(command, fields) {
+    match payload::check(command, fields) {
         FieldsAnswer::Err(e) => Count::Err(e),
         FieldsAnswer::Ok(_) => {
-            let prefix = fields::payload::prefix_of(command, fields);
+            let prefix = payload::prefix_of(command, fields);
             let len = prefix.len;
             match frame_len(command, len, run.len()) {
                 Count::Err(e) => Count::Err(e),
@@ -119,7 +119,7 @@ fn write_fields(
                         return Count::Err(Refusal::BufferTooSmall { needed, available });
                     }
                     let bytes = prefix.bytes;
-                    if !fields::payload::carries_run(command) {
+                    if !payload::carries_run(command) {
                         return put_seven_bit(device, command, &bytes[..len], &run[..0], out);
                     }
                     put_seven_bit(device, command, &bytes[..len], run, out)

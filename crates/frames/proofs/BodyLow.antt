@@ -21,7 +21,7 @@ use Rattle.framing.specs.declared.MaybeByte.the-variants as m
 use Rattle.framing.proofs.Bytes.{no-high}
 use Rattle.message.specs.declared.head.Frame.{Frame}
 use Rattle.message.specs.Head.{commandOfHead, fieldsOf}
-use Rattle.fields.specs.Wire.{prefixOf, checkedFields}
+use Rattle.payload.specs.Wire.{prefixOf, checkedFields}
 use Rattle.frame_writer.specs.Writer.{row, ownRun, lengthFor, sevenBitWrite, roomWrite, fieldsWrite, frameWrite}
 
 -- a body between its ends

@@ -19,7 +19,7 @@ use Rattle.command.proofs.Table.{of-every}
 use Rattle.packed.specs.Packed.{packedLength}
 use Rattle.framing.specs.Framing.{sameBytes}
 use Rattle.fields.specs.declared.Fields.{Fields}
-use Rattle.fields.specs.Wire.{carriesRun, optional, fieldList, fieldsAt, allFit}
+use Rattle.payload.specs.Wire.{carriesRun, optional, fieldList, fieldsAt, allFit}
 use Rattle.frame_reader.specs.declared.Record.{Record}
 use Rattle.payload_reader.specs.Payload.{accepted, numberedBy, prefixLength, early, isAny, whenRun, versionIn, readFields, readShort, readRun, readDump, readPayload}
 use Rattle.frame_reader.specs.Reader.{payload, maker, readRecord}

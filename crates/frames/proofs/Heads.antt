@@ -20,7 +20,7 @@ use Rattle.message.specs.declared.head.Frame.{Frame}
 use Rattle.interface.specs.Interface.{interfaceAt, interfaceByte}
 use Rattle.fields.specs.Fields.{notifyFields}
 use Rattle.message.specs.Head.{commandOfHead, fieldsOf, headFrom}
-use Rattle.fields.specs.Wire.{fieldList, fieldsAt, allFit}
+use Rattle.payload.specs.Wire.{fieldList, fieldsAt, allFit}
 use Rattle.frame_reader.specs.declared.Record.{Record}
 use Rattle.payload_reader.specs.Payload.{numberedBy}
 use Rattle.frame_reader.specs.Reader.{payload, readRecord, frameOf, parsed, runOf}

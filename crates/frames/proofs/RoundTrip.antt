@@ -24,7 +24,7 @@ use Rattle.framing.specs.declared.MaybeByte.the-variants as m
 use Rattle.framing.specs.Framing.{body, firstHigh}
 use Rattle.framing.proofs.Bytes.{spelled, high-none-behind}
 use Rattle.fields.specs.declared.Fields.{Fields}
-use Rattle.fields.specs.Wire.{carriesRun, fieldList, fieldsAt, wire, prefixOf, allFit, fieldFits, checkedFields}
+use Rattle.payload.specs.Wire.{carriesRun, fieldList, fieldsAt, wire, prefixOf, allFit, fieldFits, checkedFields}
 use Rattle.frame_reader.specs.declared.Record.{Record}
 use Rattle.payload_reader.specs.Payload.{numberedBy, prefixLength}
 use Rattle.frame_reader.specs.Reader.{payload, maker, readRecord, runIn, runOf}

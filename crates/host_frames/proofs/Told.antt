@@ -10,7 +10,7 @@ use borrow.Author.Tests.{le-leb, lt-leb}
 use Rattle.laws.specs.Choice.{pick}
 use Rattle.refusal.specs.declared.Refusal.{Refusal}
 use Rattle.refusal.specs.Outcome.{Outcome, gives, refusal}
-use Rattle.fields.specs.Wire.{carriesRun, fieldList}
+use Rattle.payload.specs.Wire.{carriesRun, fieldList}
 use Rattle.frame_reader.specs.declared.Record.{Record}
 use Rattle.frame_reader.specs.Reader.{readRecord, runIn, runOf, payload, placeIn}
 use Rattle.frame_reader.proofs.Accepted.{described}

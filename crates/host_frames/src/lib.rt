@@ -120,10 +120,10 @@ pub extern "C" fn dm_frame_read(bytes: &[u8]) -> ReadAnswer
             let device = record.device;
             let command = record.command;
             let fields = record.fields;
-            if !fields::payload::carries_run(command) {
+            if !payload::carries_run(command) {
                 return numbers(device, command, fields, 0, 0);
             }
-            let start = 7 + fields::payload::prefix_of(command, fields).len;
+            let start = 7 + payload::prefix_of(command, fields).len;
             let end = bytes.len() - 1;
             numbers(device, command, fields, start, end - start)
         }

@@ -20,7 +20,7 @@ use Rattle.message.specs.declared.head.FrameAnswer.{FrameAnswer}
 use Rattle.message.specs.declared.head.FrameAnswer.the-variants as ra
 use Rattle.interface.specs.Interface.{interfaceAt, interfaceByte}
 use Rattle.fields.specs.Fields.{freeFields, requestFields, dumpFields, patternFields, notifyFields}
-use Rattle.fields.specs.Wire.{checkedFields}
+use Rattle.payload.specs.Wire.{checkedFields}
 
 -- a pattern's number where there is one
 abbrev pub patternAt : Bool → ℕ → MaybePattern

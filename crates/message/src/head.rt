@@ -4,13 +4,10 @@ ghost use Rattle.message.specs.Head.{patternAt, commandOfHead, fieldsOf,
 use command::Command;
 use command::CommandAnswer;
 use fields::Fields;
-use fields::FieldsAnswer;
 use fields::dump_fields;
 use fields::free_fields;
 use fields::notify_fields;
 use fields::pattern_fields;
-use fields::payload::carries_run;
-use fields::payload::check;
 use fields::request_fields;
 use ids::Bank;
 use ids::DeviceId;
@@ -18,6 +15,9 @@ use ids::PatternNumber;
 use ids::ProgramNumber;
 use ids::ProtocolVersion;
 use interface::Interface;
+use payload::FieldsAnswer;
+use payload::carries_run;
+use payload::check;
 use refusal::Refusal;
 
 // The number of a stored pattern; the one being edited has none.

@@ -21,10 +21,9 @@ use Rattle.command.specs.declared.Command.{Command}
 use Rattle.command.specs.declared.Command.the-variants as k
 use Rattle.command.specs.Payload as y
 use Rattle.command.specs.Payload.{Field}
-use Rattle.command.proofs.Table.{of-every}
 use Rattle.fields.specs.declared.Fields.{Fields}
 use Rattle.fields.specs.Fields.{patternFields}
-use Rattle.fields.specs.Wire.{tag, valueOf, secondOf, optional, fieldList, fieldsIn, fieldsAt, carriesRun, checked, fieldOk, smallChecked, wire, prefixOf, Padded, checkedFields}
+use Rattle.payload.specs.Wire.{tag, valueOf, secondOf, optional, fieldList, fieldsIn, fieldsAt, carriesRun, checked, fieldOk, smallChecked, wire, prefixOf, Padded, checkedFields}
 
 -- fields are read by their bytes alone: two payloads that agree in the first n bytes give the same
 value-same : (f : Field) (l : List Field) (p q : List ℕ) (i n : ℕ) → i + length l ≤ n → ((j : ℕ) → j < n → getD p j 0 ≡ getD q j 0)

@@ -11,9 +11,9 @@ use Rattle.command.specs.declared.Command.{Command}
 use Rattle.command.specs.Command.{codeOf}
 use Rattle.command.specs.Payload as y
 use Rattle.command.specs.Payload.{Field, Run, payloadOf}
 use Rattle.fields.specs.declared.Fields.{Fields}
-use Rattle.fields.specs.declared.payload.FieldsAnswer.{FieldsAnswer}
-use Rattle.fields.specs.declared.payload.FieldsAnswer.the-variants as fa
+use Rattle.payload.specs.declared.FieldsAnswer.{FieldsAnswer}
+use Rattle.payload.specs.declared.FieldsAnswer.the-variants as fa
 
 -- does a payload end with a run?
 abbrev pub isRun : Run → Bool

@@ -1,16 +1,14 @@
 // The payload bytes ahead of a run: to fields, from fields, and their ranges.
 ghost use mathlib.Core.Path.{_≡_};
 ghost use mathlib.Core.List.{[], _∷_};
-ghost use Rattle.fields.specs.Wire.{carriesRun, fieldsAt, prefixOf, Padded, smallChecked, checkedFields, fieldsTold};
-use crate::Fields;
-use crate::dump_fields;
-use crate::free_fields;
-use crate::notify_fields;
-use crate::pattern_fields;
-use crate::request_fields;
+ghost use Rattle.payload.specs.Wire.{carriesRun, fieldsAt, prefixOf, Padded, smallChecked, checkedFields, fieldsTold};
 use command::Command;
-use ids::BANK_COUNT;
-use ids::PROGRAMS_PER_BANK;
+use fields::Fields;
+use fields::dump_fields;
+use fields::free_fields;
+use fields::notify_fields;
+use fields::pattern_fields;
+use fields::request_fields;
 use ids::ProtocolVersion;
 use ids::USER_PATTERN_COUNT;
 use ids::VersionAnswer;

@@ -20,8 +20,8 @@ use Rattle.command.specs.Payload.{Run, payloadOf, runLength, rawLengthFor}
 use Rattle.command.proofs.Table.{same-code, of-every}
 use Rattle.packed.specs.Packed.{unpackedLength, unpackedLengthOf, packedLength}
 use Rattle.packed.proofs.Lengths.{unpacked-given}
-use Rattle.fields.specs.Wire.{carriesRun, optional, fieldsAt, fieldOk, smallChecked}
-use Rattle.fields.proofs.ByKind.{checked-by-kind, version-first}
+use Rattle.payload.specs.Wire.{carriesRun, optional, fieldsAt, fieldOk, smallChecked}
+use Rattle.payload.proofs.ByKind.{checked-by-kind, version-first}
 use Rattle.payload_reader.specs.Payload.{accepted, numberedBy, prefixLength, early, wrongLength, readFields, isAny, versionIn, readRun}
 
 -- lengths that do not unpack are not accepted

@@ -12,7 +12,7 @@ use Rattle.command.specs.Payload as y
 use Rattle.command.specs.Payload.{Run, payloadOf, rawLengthFor}
 use Rattle.packed.specs.Packed.{packedLength, unpackedLength}
 use Rattle.fields.specs.declared.Fields.{Fields}
-use Rattle.fields.specs.Wire.{carriesRun, optional, fieldList, fieldsAt, fieldOk, checked}
+use Rattle.payload.specs.Wire.{carriesRun, optional, fieldList, fieldsAt, fieldOk, checked}
 
 -- "Accepted run lengths": the run can be unpacked, and holds the raw bytes and less than one group more
 abbrev pub accepted : ℕ → ℕ → Bool

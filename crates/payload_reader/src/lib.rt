@@ -1,13 +1,13 @@
 // Reads the payload of a frame: which run lengths are accepted, and the fields ahead of the run.
 ghost use mathlib.Core.Path.{_≡_};
 ghost use mathlib.Core.Bool.{true, false};
-ghost use Rattle.fields.specs.Wire.{carriesRun, fieldsAt, fieldsTold};
+ghost use Rattle.payload.specs.Wire.{carriesRun, fieldsAt, fieldsTold};
 ghost use Rattle.payload_reader.specs.Payload.{accepted, numberedBy, early, readShort, readDump, readRun, versionIn, readPayload};
 use command::Command;
 use fields::Fields;
-use fields::FieldsAnswer;
 use ids::ProtocolVersion;
 use ids::VersionAnswer;
+use payload::FieldsAnswer;
 use refusal::Count;
 use refusal::Refusal;
 
@@ -62,7 +62,7 @@ fn front(command: Command, payload: &[u8], numbered: bool) -> Fields
     let d = framing::byte_at(payload, 2);
     let e = framing::byte_at(payload, 3);
     let f = framing::byte_at(payload, 4);
-    fields::payload::fields_at(command, a, b, d, e, f, numbered)
+    payload::fields_at(command, a, b, d, e, f, numbered)
 }
 
 // A payload without a run: its length, 7, then its fields.
@@ -79,7 +79,7 @@ fn read_short(command: Command, payload: &[u8]) -> FieldsAnswer
             found,
         });
     }
-    fields::payload::check_small(front(command, payload, false))
+    payload::check_small(front(command, payload, false))
 }
 
 // A dump behind its version: further prefix 7, run length 7 or 13, then the other fields.
@@ -101,16 +101,16 @@ fn read_run(command: Command, version: ProtocolVersion, payload: &[u8]) -> Field
     if code == 0x12 {
         return match packed::unpacked_len(run_len) {
             Count::Err(e) => FieldsAnswer::Err(e),
-            Count::Ok(_) => fields::payload::check_small(front(command, payload, false)),
+            Count::Ok(_) => payload::check_small(front(command, payload, false)),
         };
     }
     let raw_len = command::raw_len(command, version);
     if holds(run_len, raw_len) {
-        return fields::payload::check_small(front(command, payload, false));
+        return payload::check_small(front(command, payload, false));
     }
     if code == 0x08 {
         if is_numbered(found) {
-            return fields::payload::check_small(front(command, payload, true));
+            return payload::check_small(front(command, payload, true));
         }
     }
     let expected = prefix + packed::PACKED_GROUP * ((raw_len + 6) / packed::RAW_GROUP);
@@ -143,7 +143,7 @@ fn read_dump(command: Command, payload: &[u8]) -> FieldsAnswer
 pub fn read_payload(command: Command, payload: &[u8]) -> FieldsAnswer
     ensures { λ r. ⌜ fieldsTold r ≡ readPayload command (now (payload .entry)) ⌝ }
 {
-    if fields::payload::carries_run(command) {
+    if payload::carries_run(command) {
         return read_dump(command, payload);
     }
     read_short(command, payload)

@@ -1,9 +1,9 @@
 -- `run_of` meets its contract: the part behind the prefix, which every accepted frame has.
 use Rattle.frame_reader.proofs.RunPlace.{prefix-there, run-part}
-use Rattle.fields.proofs.ByKind.{length-wire}
+use Rattle.payload.proofs.ByKind.{length-wire}
 use Rattle.frame_reader.proofs.Accepted.{described}
 use Rattle.frame_reader.specs.Reader.{recordTold}
-use Rattle.fields.specs.Wire.{fieldList}
+use Rattle.payload.specs.Wire.{fieldList}
 use borrow.Author.Tests.{not-true, not-false}
 use native.Mathlib.Omega.{arith}
 use Prim.Native.Nat.{_-_}

@@ -1,8 +1,8 @@
 -- `dm_frame_read` meets its contract: it tells what the reader below it read, and where the run lies.
 use Rattle.host_frames.proofs.Told.{read-refused, read-told, prefix-fits, start-told, length-told, no-start, no-length}
 use Rattle.frame_reader.specs.Reader.{recordTold}
-use Rattle.fields.proofs.ByKind.{length-wire}
-use Rattle.fields.specs.Wire.{fieldList}
+use Rattle.payload.proofs.ByKind.{length-wire}
+use Rattle.payload.specs.Wire.{fieldList}
 use borrow.Author.Tests.{not-true, not-false}
 use lib.ListN.{length}
 use native.Mathlib.Omega.{arith}
@@ -16,8 +16,8 @@ use Rattle.host_frames.proofs.dm_frame_read.Lts as lts
 use Rattle.frame_reader.proofs.read_record.Reads as read-record-reads
 use Rattle.host_frames.proofs.not_read.Reads as not-read-reads
 use Rattle.host_frames.proofs.numbers.Reads as numbers-reads
-use Rattle.fields.proofs.payload.carries_run.Reads as carries-run-reads
-use Rattle.fields.proofs.payload.prefix_of.Reads as prefix-of-reads
+use Rattle.payload.proofs.carries_run.Reads as carries-run-reads
+use Rattle.payload.proofs.prefix_of.Reads as prefix-of-reads
 
 read-record-requires : tie.Need-read-record-requires
 read-record-requires c κs = search needs

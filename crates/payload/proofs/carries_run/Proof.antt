@@ -1,7 +1,7 @@
 -- `carries_run` meets its contract, command by command.
 use borrow.Author.Needs.{needs}
-use Rattle.fields.proofs.payload.carries_run.Statement.{statement}
-use Rattle.fields.proofs.payload.carries_run.Tie as tie
+use Rattle.payload.proofs.carries_run.Statement.{statement}
+use Rattle.payload.proofs.carries_run.Tie as tie
 
 enum-told : tie.Need-enum-told
 enum-told c = search needs

@@ -1,13 +1,13 @@
 -- `check` meets its contract: it makes the prefix of the command's own fields, reads these back, and tests them by kind.
 use mathlib.Core.Bool.{true, false}
-use Rattle.fields.proofs.ByKind.{checked-prefix, fields-five, version-refused, version-passed}
-use Rattle.fields.proofs.ByKind.{checked-prefix, version-refused, version-passed}
-use Rattle.fields.specs.Wire.{carriesRun, smallChecked}
+use Rattle.payload.proofs.ByKind.{checked-prefix, fields-five, version-refused, version-passed}
+use Rattle.payload.proofs.ByKind.{checked-prefix, version-refused, version-passed}
+use Rattle.payload.specs.Wire.{carriesRun, smallChecked}
 use Rattle.ids.specs.Small.{versionTold}
 use mathlib.Core.Path.{_≡_, ap, sym, _∙_}
 use borrow.Author.Needs.{needs}
-use Rattle.fields.proofs.payload.check.Statement.{statement}
-use Rattle.fields.proofs.payload.check.Tie as tie
+use Rattle.payload.proofs.check.Statement.{statement}
+use Rattle.payload.proofs.check.Tie as tie
 
 prefix-of-requires : tie.Need-prefix-of-requires
 prefix-of-requires c κs = search needs

@@ -1,7 +1,7 @@
 -- `check_small` meets its contract: the code's tests are the definition's, one after another.
 use borrow.Author.Tests.{lt-ltb, le-ltb}
-use Rattle.fields.proofs.payload.check_small.Statement.{statement}
-use Rattle.fields.proofs.payload.check_small.Tie as tie
+use Rattle.payload.proofs.check_small.Statement.{statement}
+use Rattle.payload.proofs.check_small.Tie as tie
 
 returns : tie.Need-returns
 returns c = rw (le-ltb _ _ (c .if1 .taken))

@@ -1,9 +1,9 @@
 -- `fields_at` meets its contract, command by command: each field is the byte at its place in the list of payloads.
 use mathlib.Core.Path.{_∙_}
-use Rattle.fields.proofs.ByKind.{pattern-at}
+use Rattle.payload.proofs.ByKind.{pattern-at}
 use borrow.Author.Needs.{needs}
-use Rattle.fields.proofs.payload.fields_at.Statement.{statement}
-use Rattle.fields.proofs.payload.fields_at.Tie as tie
+use Rattle.payload.proofs.fields_at.Statement.{statement}
+use Rattle.payload.proofs.fields_at.Tie as tie
 
 enum-told : tie.Need-enum-told
 enum-told c = search needs

@@ -1,7 +1,7 @@
 -- `prefix_of` meets its contract, command by command: the bytes of its fields in wire order.
 use borrow.Author.Needs.{needs}
-use Rattle.fields.proofs.payload.prefix_of.Statement.{statement}
-use Rattle.fields.proofs.payload.prefix_of.Tie as tie
+use Rattle.payload.proofs.prefix_of.Statement.{statement}
+use Rattle.payload.proofs.prefix_of.Tie as tie
 
 enum-told : tie.Need-enum-told
 enum-told c = search needs

@@ -1,5 +1,5 @@
 -- `front` meets its contract: the first five bytes tell all fields.
-use Rattle.fields.proofs.ByKind.{fields-five}
+use Rattle.payload.proofs.ByKind.{fields-five}
 use mathlib.Core.Path.{_∙_}
 use borrow.Author.Needs.{needs}
 use Rattle.payload_reader.proofs.front.Statement.{statement}

@@ -1,6 +1,6 @@
 -- `read_dump` meets its contract: what has to be there, then the version, then the rest.
 use Rattle.payload_reader.proofs.Tests.{early-one}
-use Rattle.fields.proofs.ByKind.{version-refused, version-passed}
+use Rattle.payload.proofs.ByKind.{version-refused, version-passed}
 use Rattle.payload_reader.specs.Payload.{prefixLength, early, readRun}
 use Rattle.ids.proofs.Range.{version-in-range}
 use Rattle.ids.specs.Small.{versionTold}

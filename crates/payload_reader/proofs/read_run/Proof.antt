@@ -4,7 +4,7 @@ use Rattle.packed.specs.Packed.{unpackedLength}
 use Rattle.refusal.proofs.Given.{refused-too}
 use Rattle.payload_reader.proofs.Tests.{fields-tested, run-too-short, any-run, run-accepted, run-numbered, run-refused, raw-small}
 use Rattle.payload_reader.specs.Payload.{prefixLength, accepted, numberedBy}
-use Rattle.fields.specs.Wire.{smallChecked}
+use Rattle.payload.specs.Wire.{smallChecked}
 use Rattle.packed.proofs.Lengths.{unpacked-given}
 use Rattle.command.specs.Payload.{rawLengthFor}
 use Rattle.command.specs.Command.{codeOf}

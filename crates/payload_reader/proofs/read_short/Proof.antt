@@ -1,5 +1,5 @@
 -- `read_short` meets its contract: length, then fields.
-use Rattle.fields.specs.Wire.{smallChecked}
+use Rattle.payload.specs.Wire.{smallChecked}
 use Rattle.payload_reader.proofs.Tests.{fields-untested}
 use Rattle.payload_reader.specs.Payload.{prefixLength}
 use Rattle.command.specs.declared.Row.{Row}

@@ -2,7 +2,7 @@
 use Rattle.message.proofs.Versions.{version-there, version-lacking}
 use Rattle.message.specs.declared.head.MaybeVersion.the-variants as v
 use Rattle.fields.specs.declared.Fields.{Fields}
-use Rattle.fields.specs.Wire.{carriesRun}
+use Rattle.payload.specs.Wire.{carriesRun}
 use mathlib.Core.Path.{ap, sym, _∙_}
 use borrow.Author.Needs.{needs}
 use Rattle.message.proofs.head.Head.version.Statement.{statement}
