@@ -7,7 +7,7 @@ use Rattle.ids.specs.declared.DeviceId.{DeviceId}
 use Rattle.boundary.specs.declared.Answer.{Answer}
 use Rattle.boundary.specs.Answer.{answerOf}
 use Rattle.boundary.specs.Device.{everyoneOf, unitOf}
-use Rattle.inquiry.specs.declared.Identity.{Identity}
+use Rattle.identity.specs.declared.Identity.{Identity}
 use Rattle.host_identity.specs.Identity.{requestAnswer, replyAnswer}
 
 pub request-told : (o : Outcome DeviceId) (d : DeviceId) (e u : ℕ) → gives d ≡ o → e ≡ everyoneOf d → u ≡ unitOf d

@@ -5,7 +5,7 @@ use lib.ListN.{getD}
 use Rattle.refusal.specs.Outcome.{Outcome, gives, refused}
 use Rattle.ids.specs.declared.DeviceId.{DeviceId}
 use Rattle.boundary.specs.Device.{everyoneOf, unitOf, deviceFrom}
-use Rattle.inquiry.specs.declared.Identity.{Identity}
+use Rattle.identity.specs.declared.Identity.{Identity}
 use Rattle.host_identity.specs.declared.RequestAnswer.{RequestAnswer}
 use Rattle.host_identity.specs.declared.ReplyAnswer.{ReplyAnswer}
 

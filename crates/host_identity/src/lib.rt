@@ -4,13 +4,14 @@ ghost use lib.Dec.{leb};
 ghost use lib.ListN.{length};
 ghost use Rattle.boundary.specs.Answer.{SendsIf};
 ghost use Rattle.boundary.specs.Device.{deviceFrom};
-ghost use Rattle.inquiry.specs.Inquiry.{readRequest, readReply, requestWrite, replyWrite};
+ghost use Rattle.inquiry_request.specs.Request.{readRequest, requestWrite};
+ghost use Rattle.inquiry_reply.specs.Reply.{readReply, replyWrite};
 ghost use Rattle.host_identity.specs.Identity.{requestAnswer, replyAnswer, identityFrom};
 use boundary::Answer;
+use identity::Identity;
+use identity::Version;
 use ids::DeviceAnswer;
-use inquiry::Identity;
-use inquiry::IdentityAnswer;
-use inquiry::Version;
+use inquiry_reply::IdentityAnswer;
 
 // What a request tells. number: 0 where it is read, else document 01's number with its detail, and 0 behind them. everyone: 1 where it asks every
 // unit, and then unit is 0.
@@ -40,7 +41,7 @@ pub struct ReplyAnswer {
 pub extern "C" fn dm_request_read(bytes: &[u8]) -> RequestAnswer
     ensures { λ r. ⌜ r ≡ requestAnswer (readRequest (now (bytes .entry))) ⌝ }
 {
-    match inquiry::parse_request(bytes) {
+    match inquiry_request::parse_request(bytes) {
         DeviceAnswer::Ok(asked) => RequestAnswer {
             number: 0,
             detail0: 0,
@@ -64,7 +65,7 @@ pub extern "C" fn dm_request_read(bytes: &[u8]) -> RequestAnswer
 pub extern "C" fn dm_reply_read(bytes: &[u8]) -> ReplyAnswer
     ensures { λ r. ⌜ r ≡ replyAnswer (readReply (now (bytes .entry))) ⌝ }
 {
-    match inquiry::parse_reply(bytes) {
+    match inquiry_reply::parse_reply(bytes) {
         IdentityAnswer::Ok(identity) => {
             let device = identity.device;
             ReplyAnswer {
@@ -102,7 +103,7 @@ pub extern "C" fn dm_request_write(everyone: u8, unit: u8, out: &mut [u8]) -> An
     if 1 < everyone {
         return boundary::no_record();
     }
-    boundary::count(inquiry::request_into(boundary::device_of(everyone, unit), out))
+    boundary::count(inquiry_request::request_into(boundary::device_of(everyone, unit), out))
 }
 
 // Writes a reply. NO_RECORD for everyone above 1; then refuses 5, 14.
@@ -129,5 +130,5 @@ pub extern "C" fn dm_reply_write(
             minor: voice_minor,
         },
     };
-    boundary::count(inquiry::reply_into(identity, out))
+    boundary::count(inquiry_reply::reply_into(identity, out))
 }

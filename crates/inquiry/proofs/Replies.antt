@@ -16,8 +16,8 @@ use Rattle.ids.specs.declared.DeviceId.{DeviceId}
 use Rattle.ids.specs.Device.{deviceOf}
 use Rattle.framing.specs.Framing.{framed, sameBytes}
 use Rattle.framing.proofs.Bytes.{same-is, spelled}
-use Rattle.inquiry.specs.declared.Identity.{Identity}
-use Rattle.inquiry.specs.Inquiry.{isReply, identityAt, readReply}
+use Rattle.identity.specs.declared.Identity.{Identity}
+use Rattle.inquiry_reply.specs.Reply.{isReply, identityAt, readReply}
 
 -- "F0 7E device 06 02 00 20 32 20 00 01 00, firmware, one free byte, two voice bytes, F7"
 abbrev pub replyRow : ℕ → ℕ → ℕ → ℕ → ℕ → List ℕ

@@ -17,9 +17,11 @@ use Rattle.ids.specs.Device.{deviceOf, deviceInRange}
 use Rattle.ids.proofs.Range.{device-in-range, device-reads-back}
 use Rattle.framing.specs.Framing.{framed, sameBytes}
 use Rattle.framing.proofs.Bytes.{same-is, spelled}
-use Rattle.inquiry.specs.declared.Version.{Version}
-use Rattle.inquiry.specs.declared.Identity.{Identity}
-use Rattle.inquiry.specs.Inquiry.{packedOf, isRequest, readRequest, readReply, requestBytes, replyBytes}
+use Rattle.identity.specs.declared.Version.{Version}
+use Rattle.identity.specs.declared.Identity.{Identity}
+use Rattle.identity.specs.Version.{packedOf}
+use Rattle.inquiry_request.specs.Request.{isRequest, readRequest, requestBytes}
+use Rattle.inquiry_reply.specs.Reply.{readReply, replyBytes}
 
 -- a request that is written reads back as its device
 pub request-reads-back : (d : DeviceId) → deviceInRange d ≡ true → readRequest (requestBytes d) ≡ gives d

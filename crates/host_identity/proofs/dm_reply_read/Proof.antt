@@ -1,6 +1,6 @@
 -- `dm_reply_read` meets its contract: it tells what the reader below it read.
 use Rattle.host_identity.proofs.Told.{reply-told, reply-refused}
-use Rattle.inquiry.specs.Inquiry.{readReply, identityTold}
+use Rattle.inquiry_reply.specs.Reply.{readReply, identityTold}
 use mathlib.Core.Path.{ap, sym, _∙_}
 use borrow.Author.Needs.{needs}
 use Rattle.host_identity.proofs.dm_reply_read.Statement.{statement}
@@ -10,7 +10,7 @@ use Rattle.host_identity.proofs.dm_reply_read.Lts as lts
 use Rattle.boundary.proofs.everyone_of.Reads as everyone-of-reads
 use Rattle.boundary.proofs.refused.Reads as refused-reads
 use Rattle.boundary.proofs.unit_of.Reads as unit-of-reads
-use Rattle.inquiry.proofs.parse_reply.Reads as parse-reply-reads
+use Rattle.inquiry_reply.proofs.parse_reply.Reads as parse-reply-reads
 
 parse-reply-requires : tie.Need-parse-reply-requires
 parse-reply-requires c κs = search needs

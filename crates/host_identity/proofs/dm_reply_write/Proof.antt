@@ -1,6 +1,6 @@
 -- `dm_reply_write` meets its contract: a flag that names no record leaves every byte; else the call below it wrote.
 use Rattle.host_identity.specs.Identity.{identityFrom}
-use Rattle.inquiry.specs.Inquiry.{replyWrite}
+use Rattle.inquiry_reply.specs.Reply.{replyWrite}
 use Rattle.boundary.proofs.Answers.{named-told, unnamed-told, writer-told}
 use Rattle.refusal.specs.Outcome.{Writes}
 use Rattle.ids.specs.declared.DeviceId.{DeviceId}
@@ -17,7 +17,7 @@ use Rattle.host_identity.proofs.dm_reply_write.Lts as lts
 use Rattle.boundary.proofs.count.Reads as count-reads
 use Rattle.boundary.proofs.device_of.Reads as device-of-reads
 use Rattle.boundary.proofs.no_record.Reads as no-record-reads
-use Rattle.inquiry.proofs.reply_into.Reads as reply-into-reads
+use Rattle.inquiry_reply.proofs.reply_into.Reads as reply-into-reads
 
 no-record-requires : tie.Need-no-record-requires
 no-record-requires c κs = search needs

@@ -1,6 +1,6 @@
 -- `dm_request_read` meets its contract: it tells what the reader below it read.
 use Rattle.host_identity.proofs.Told.{request-told, request-refused}
-use Rattle.inquiry.specs.Inquiry.{readRequest}
+use Rattle.inquiry_request.specs.Request.{readRequest}
 use Rattle.ids.specs.Device.{deviceTold}
 use mathlib.Core.Path.{ap, sym, _∙_}
 use borrow.Author.Needs.{needs}
@@ -11,7 +11,7 @@ use Rattle.host_identity.proofs.dm_request_read.Lts as lts
 use Rattle.boundary.proofs.everyone_of.Reads as everyone-of-reads
 use Rattle.boundary.proofs.refused.Reads as refused-reads
 use Rattle.boundary.proofs.unit_of.Reads as unit-of-reads
-use Rattle.inquiry.proofs.parse_request.Reads as parse-request-reads
+use Rattle.inquiry_request.proofs.parse_request.Reads as parse-request-reads
 
 parse-request-requires : tie.Need-parse-request-requires
 parse-request-requires c κs = search needs

@@ -1,5 +1,5 @@
 -- `dm_request_write` meets its contract: a flag that names no record leaves every byte; else the call below it wrote.
-use Rattle.inquiry.specs.Inquiry.{requestWrite}
+use Rattle.inquiry_request.specs.Request.{requestWrite}
 use Rattle.boundary.proofs.Answers.{named-told, unnamed-told, writer-told}
 use Rattle.boundary.specs.Device.{deviceFrom}
 use Rattle.refusal.specs.Outcome.{Writes}
@@ -17,7 +17,7 @@ use Rattle.host_identity.proofs.dm_request_write.Lts as lts
 use Rattle.boundary.proofs.count.Reads as count-reads
 use Rattle.boundary.proofs.device_of.Reads as device-of-reads
 use Rattle.boundary.proofs.no_record.Reads as no-record-reads
-use Rattle.inquiry.proofs.request_into.Reads as request-into-reads
+use Rattle.inquiry_request.proofs.request_into.Reads as request-into-reads
 
 no-record-requires : tie.Need-no-record-requires
 no-record-requires c κs = search needs

@@ -2,8 +2,8 @@
 use mathlib.Core.Path.{_∙_}
 use borrow.Author.Tests.{eq-eqb, ne-eqb}
 use borrow.Author.Needs.{needs}
-use Rattle.inquiry.proofs.is_request.Statement.{statement}
-use Rattle.inquiry.proofs.is_request.Tie as tie
+use Rattle.inquiry_request.proofs.is_request.Statement.{statement}
+use Rattle.inquiry_request.proofs.is_request.Tie as tie
 
 returns : tie.Need-returns
 returns c = rw (ne-eqb _ _ (c .if1 .taken))

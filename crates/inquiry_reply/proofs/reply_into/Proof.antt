@@ -1,5 +1,5 @@
 -- `reply_into` meets its contract: 5, then 14, then seventeen bytes stored one after another.
-use Rattle.inquiry.specs.Inquiry.{replyBytes}
+use Rattle.inquiry_reply.specs.Reply.{replyBytes}
 use Rattle.ids.specs.Device.{deviceByte, deviceInRange}
 use Rattle.refusal.proofs.Written.{stopped, went-on, no-room, stored}
 use Rattle.refusal.specs.declared.Refusal.the-variants as r
@@ -10,8 +10,8 @@ use mathlib.Core.List.{[], _∷_}
 use mathlib.Core.Bool.{true, false}
 use mathlib.Core.Path.{_≡_, refl, sym, _∙_}
 use borrow.Author.Needs.{needs}
-use Rattle.inquiry.proofs.reply_into.Statement.{statement}
-use Rattle.inquiry.proofs.reply_into.Tie as tie
+use Rattle.inquiry_reply.proofs.reply_into.Statement.{statement}
+use Rattle.inquiry_reply.proofs.reply_into.Tie as tie
 
 to-byte-requires : tie.Need-to-byte-requires
 to-byte-requires c κs = search needs

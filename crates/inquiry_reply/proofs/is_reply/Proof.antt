@@ -2,8 +2,8 @@
 use mathlib.Core.Path.{_∙_}
 use borrow.Author.Tests.{eq-eqb, ne-eqb}
 use borrow.Author.Needs.{needs}
-use Rattle.inquiry.proofs.is_reply.Statement.{statement}
-use Rattle.inquiry.proofs.is_reply.Tie as tie
+use Rattle.inquiry_reply.proofs.is_reply.Statement.{statement}
+use Rattle.inquiry_reply.proofs.is_reply.Tie as tie
 
 returns : tie.Need-returns
 returns c = rw (ne-eqb _ _ (c .if1 .taken))

@@ -1,7 +1,7 @@
 -- `Version::at_least` meets its contract: by the major number first.
 use borrow.Author.Tests.{eq-eqb, ne-eqb}
-use Rattle.inquiry.proofs.Version.at_least.Statement.{statement}
-use Rattle.inquiry.proofs.Version.at_least.Tie as tie
+use Rattle.identity.proofs.Version.at_least.Statement.{statement}
+use Rattle.identity.proofs.Version.at_least.Tie as tie
 
 returns : tie.Need-returns
 returns c = rw (eq-eqb _ _ (c .before .if1 .taken))

@@ -1,7 +1,7 @@
 -- `Version::is` meets its contract: by the major number first.
 use borrow.Author.Tests.{eq-eqb, ne-eqb}
-use Rattle.inquiry.proofs.Version.is.Statement.{statement}
-use Rattle.inquiry.proofs.Version.is.Tie as tie
+use Rattle.identity.proofs.Version.is.Statement.{statement}
+use Rattle.identity.proofs.Version.is.Tie as tie
 
 returns : tie.Need-returns
 returns c = rw (eq-eqb _ _ (c .before .if1 .taken))
