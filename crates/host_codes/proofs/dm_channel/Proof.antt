@@ -4,8 +4,8 @@ use Rattle.boundary.proofs.Answers.{number-told, refusal-told}
 use Rattle.wire.specs.Channel.{channelTold, channelOf}
 use mathlib.Core.Path.{ap, sym, _∙_}
 use borrow.Author.Needs.{needs}
-use Rattle.host_numbers.proofs.dm_channel.Statement.{statement}
-use Rattle.host_numbers.proofs.dm_channel.Tie as tie
+use Rattle.host_codes.proofs.dm_channel.Statement.{statement}
+use Rattle.host_codes.proofs.dm_channel.Tie as tie
 
 new-requires : tie.Need-new-requires
 new-requires c κs = search needs
