@@ -22,7 +22,7 @@ pub fn ulen(ask: &[u8], at: usize, out: &mut [u8]) -> usize {
 }
 
 fn packs(raw: &[u8], lent: &mut [u8], out: &mut [u8]) -> usize {
-    let count = packed::pack_into(raw, lent);
+    let count = packing::pack_into(raw, lent);
     said::wrote(out, count, lent)
 }
 
@@ -35,7 +35,7 @@ pub fn pack(ask: &[u8], at: usize, out: &mut [u8]) -> usize {
 }
 
 fn unpacks(run: &[u8], lent: &mut [u8], out: &mut [u8]) -> usize {
-    let count = packed::unpack_into(run, lent);
+    let count = unpacking::unpack_into(run, lent);
     said::wrote(out, count, lent)
 }
 

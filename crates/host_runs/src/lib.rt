@@ -26,7 +26,7 @@ pub extern "C" fn dm_unpacked_len(n: usize) -> Answer
 pub extern "C" fn dm_pack(raw: &[u8], out: &mut [u8]) -> Answer
     ensures { λ r. ⌜ Sends (packWrite (now (raw .entry)) (length (now (out .entry)))) r (now (out .entry)) (now (out .exit)) ⌝ }
 {
-    boundary::count(packed::pack_into(raw, out))
+    boundary::count(packing::pack_into(raw, out))
 }
 
 // Unpacks run into out; top bits of its data bytes are not looked at. Refuses 13, 14.
@@ -34,5 +34,5 @@ pub extern "C" fn dm_pack(raw: &[u8], out: &mut [u8]) -> Answer
 pub extern "C" fn dm_unpack(run: &[u8], out: &mut [u8]) -> Answer
     ensures { λ r. ⌜ Sends (unpackWrite (now (run .entry)) (length (now (out .entry)))) r (now (out .entry)) (now (out .exit)) ⌝ }
 {
-    boundary::count(packed::unpack_into(run, out))
+    boundary::count(unpacking::unpack_into(run, out))
 }

@@ -7,7 +7,7 @@ use lib.ListN.{length}
 use Rattle.refusal.specs.Outcome.{gives, refused}
 use Rattle.ids.specs.declared.DeviceId.the-variants as d
 use Rattle.packed.specs.Packed.{packed, unpacked, unpackedLengthOf}
-use Rattle.packed.proofs.Rows.{row-a, row-b, row-c, row-d, row-e}
+use Rattle.packed_back.proofs.Rows.{row-a, row-b, row-c, row-d, row-e}
 use Rattle.channel_message.specs.declared.ChannelMessage.the-variants as w
 use Rattle.system_common.specs.declared.SystemCommon.the-variants as y
 use Rattle.real_time.specs.declared.Realtime.the-variants as t

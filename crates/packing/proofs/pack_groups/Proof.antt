@@ -1,10 +1,10 @@
 -- `pack_groups` meets its contract: after g turns the bytes of g groups stand at the front.
 use Rattle.packed.proofs.Groups.{Filled, filled-none, filled-more, filled-all, packed-more}
 use Rattle.packed.specs.Packed.{packedByte, groupByte}
 use native.Mathlib.Omega.{arith}
 use Prim.Native.Nat.{_*_, _-_}
-use Rattle.packed.proofs.pack_groups.Statement.{statement}
-use Rattle.packed.proofs.pack_groups.Tie as tie
+use Rattle.packing.proofs.pack_groups.Statement.{statement}
+use Rattle.packing.proofs.pack_groups.Tie as tie
 
 abbrev Inv-loop : tie.InvT-loop
 Inv-loop raw groups out₀ g₀ out g = Filled (packedByte raw) 8 groups out₀ out g

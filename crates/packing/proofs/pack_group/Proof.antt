@@ -1,11 +1,11 @@
 -- `pack_group` meets its contract: after i turns i raw bytes are in place and their top bits gathered; the top bits are stored last.
 use Rattle.packed.proofs.Groups.{Packing, packing-none, packing-more, packing-done}
 use borrow.Author.Needs.{needs}
 use lib.ListN.{length-set}
 use native.Mathlib.Omega.{arith}
 use Prim.Native.Nat.{_-_}
-use Rattle.packed.proofs.pack_group.Statement.{statement}
-use Rattle.packed.proofs.pack_group.Tie as tie
+use Rattle.packing.proofs.pack_group.Statement.{statement}
+use Rattle.packing.proofs.pack_group.Tie as tie
 
 abbrev Inv-loop : tie.InvT-loop
 Inv-loop raw from out₀ at high₀ i₀ out high i = Packing raw from out₀ at out high i

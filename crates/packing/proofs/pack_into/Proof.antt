@@ -11,8 +11,8 @@ use native.Mathlib.Omega.{arith}
 use Prim.Native.Nat.{ℕ, _*_, _/_}
 use mathlib.Core.Path.{_≡_, sym, _∙_, ap}
 use borrow.Author.Needs.{needs}
-use Rattle.packed.proofs.pack_into.Statement.{statement}
-use Rattle.packed.proofs.pack_into.Tie as tie
+use Rattle.packing.proofs.pack_into.Statement.{statement}
+use Rattle.packing.proofs.pack_into.Tie as tie
 
 packed-len-requires : tie.Need-packed-len-requires
 packed-len-requires c κs = search needs

@@ -2,8 +2,8 @@
 use lib.ListN.{List·getD-eq-default}
 use mathlib.Core.Path.{sym}
 use borrow.Author.Needs.{needs}
-use Rattle.packed.proofs.byte_at.Statement.{statement}
-use Rattle.packed.proofs.byte_at.Tie as tie
+use Rattle.packing.proofs.byte_at.Statement.{statement}
+use Rattle.packing.proofs.byte_at.Tie as tie
 
 shared-slice-read-result : tie.Need-shared-slice-read-result
 shared-slice-read-result c = search needs

@@ -1,7 +1,7 @@
 -- `low_seven` meets its contract: a mask of seven ones is a remainder.
 use Rattle.packed.proofs.Bits.{seven-bits}
-use Rattle.packed.proofs.low_seven.Statement.{statement}
-use Rattle.packed.proofs.low_seven.Tie as tie
+use Rattle.packing.proofs.low_seven.Statement.{statement}
+use Rattle.packing.proofs.low_seven.Tie as tie
 
 returns : tie.Need-returns
 returns c = seven-bits (c .args .byte)

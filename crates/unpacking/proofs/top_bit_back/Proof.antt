@@ -1,8 +1,8 @@
 -- `top_bit_back` meets its contract: the shifted bit lies above the seven bits of data.
 use Rattle.packed.proofs.Bits.{top-bit-out}
 use borrow.Author.Needs.{needs}
-use Rattle.packed.proofs.top_bit_back.Statement.{statement}
-use Rattle.packed.proofs.top_bit_back.Tie as tie
+use Rattle.unpacking.proofs.top_bit_back.Statement.{statement}
+use Rattle.unpacking.proofs.top_bit_back.Tie as tie
 
 cast-result : tie.Need-cast-result
 cast-result c = search needs

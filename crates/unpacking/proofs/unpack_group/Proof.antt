@@ -1,15 +1,15 @@
 -- `unpack_group` meets its contract: after i turns i raw bytes of the group are in place.
 use Rattle.packed.specs.Packed.{rawByte}
 use Rattle.laws.specs.Window.{window}
 use Rattle.laws.specs.Tabulate.{tab}
 use Prim.Native.Nat.{ℕ}
 use mathlib.Core.Path.{_≡_, _∙_, ap}
 use Rattle.packed.proofs.Groups.{Unpacking, unpacking-none, unpacking-more}
 use native.Mathlib.Omega.{arith}
 use Prim.Native.Nat.{_-_}
 use mathlib.Core.Path.{_∙_}
-use Rattle.packed.proofs.unpack_group.Statement.{statement}
-use Rattle.packed.proofs.unpack_group.Tie as tie
+use Rattle.unpacking.proofs.unpack_group.Statement.{statement}
+use Rattle.unpacking.proofs.unpack_group.Tie as tie
 
 abbrev Inv-loop : tie.InvT-loop
 Inv-loop run at count out₀ to high i₀ out i = Unpacking run at count out₀ to out i

@@ -13,8 +13,8 @@ use native.Mathlib.Omega.{arith}
 use Prim.Native.Nat.{ℕ, _+_, _*_, _-_, _/_}
 use mathlib.Core.Path.{_≡_, sym, _∙_, ap}
 use borrow.Author.Needs.{needs}
-use Rattle.packed.proofs.unpack_into.Statement.{statement}
-use Rattle.packed.proofs.unpack_into.Tie as tie
+use Rattle.unpacking.proofs.unpack_into.Statement.{statement}
+use Rattle.unpacking.proofs.unpack_into.Tie as tie
 
 unpacked-len-requires : tie.Need-unpacked-len-requires
 unpacked-len-requires c κs = search needs

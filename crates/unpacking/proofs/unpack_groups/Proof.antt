@@ -1,10 +1,10 @@
 -- `unpack_groups` meets its contract: after g turns the bytes of g groups stand at the front.
 use Rattle.packed.proofs.Groups.{Filled, filled-none, filled-more, filled-all, unpacked-more}
 use Rattle.packed.specs.Packed.{unpackedByte, rawByte}
 use native.Mathlib.Omega.{arith}
 use Prim.Native.Nat.{_*_, _-_}
-use Rattle.packed.proofs.unpack_groups.Statement.{statement}
-use Rattle.packed.proofs.unpack_groups.Tie as tie
+use Rattle.unpacking.proofs.unpack_groups.Statement.{statement}
+use Rattle.unpacking.proofs.unpack_groups.Tie as tie
 
 abbrev Inv-loop : tie.InvT-loop
 Inv-loop run whole out₀ g₀ out g = Filled (unpackedByte run) 7 whole out₀ out g

@@ -1,9 +1,9 @@
 -- `with_top_bit` meets its contract: the shifted bit lies above all that stands already.
 use native.Mathlib.Omega.{arith}
 use Rattle.packed.proofs.Bits.{top-bit-in}
 use borrow.Author.Needs.{needs}
-use Rattle.packed.proofs.with_top_bit.Statement.{statement}
-use Rattle.packed.proofs.with_top_bit.Tie as tie
+use Rattle.packing.proofs.with_top_bit.Statement.{statement}
+use Rattle.packing.proofs.with_top_bit.Tie as tie
 
 cast-result : tie.Need-cast-result
 cast-result c = search needs
