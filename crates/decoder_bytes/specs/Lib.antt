@@ -1,2 +1,1 @@
-pub mod Reports
 pub mod State

@@ -7,10 +7,6 @@ ghost use Rattle.decoder_bytes.specs.State.{isState, stateOf, stateLengt
 use decoder::Decoder;
 use decoder::RunningStatus;
 
-pub mod reports;
-
-pub use reports::FedAnswer;
-
 pub const STATE_LEN: usize = 14;
 
 // Are these bytes a state's? As many, flags 0 or 1, and no status without its flag; whether it is sound is the decoder's question.

@@ -22,9 +22,9 @@ use Rattle.damage.specs.Damage.{arrives, expected}
 use Rattle.damage.specs.Calls.{Call, Heard, usedBy, countOf, stateBy, withAnswer, calls, total, paced, belonging}
 use Rattle.damage.proofs.Chunking.{walks}
 use Rattle.damage.proofs.Condition3.{condition-3}
-use Rattle.decoder_bytes.specs.declared.reports.FedAnswer.{FedAnswer}
+use Rattle.report_numbers.specs.declared.FedAnswer.{FedAnswer}
 use Rattle.decoder_bytes.specs.State.{encoded, stateOf}
-use Rattle.decoder_bytes.specs.Reports.{numbersOf}
+use Rattle.report_numbers.specs.Reports.{numbersOf}
 use Rattle.host_stream.specs.Stream.{feedCall, fedAnswer, stateAfter}
 use Rattle.decoder_bytes.proofs.StateBytes.{encoded-is-state, state-read-back}
 use Rattle.host_damage.specs.Numbers.{toldBy, usedOf}

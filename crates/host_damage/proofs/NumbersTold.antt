@@ -18,7 +18,7 @@ use Rattle.decoder.specs.declared.MaybeReport.{MaybeReport}
 use Rattle.decoder.specs.declared.MaybeReport.the-variants as m
 use Rattle.decoder.specs.Reports.{channel, told, reportList, toldAll}
 use Rattle.damage.specs.History.{Told}
-use Rattle.decoder_bytes.specs.Reports.{reportKind, reportStatus, reportFirst, reportSecond, messageFirst, messageSecond, numbersOf}
+use Rattle.report_numbers.specs.Reports.{reportKind, reportStatus, reportFirst, reportSecond, messageFirst, messageSecond, numbersOf}
 use Rattle.host_damage.specs.Numbers.{channelRead, reportRead, toldBy}
 use Rattle.host_damage.proofs.Named.{NamedReport, Named}
 

@@ -7,7 +7,7 @@ use Rattle.laws.specs.Choice.{pick}
 use Rattle.decoder.specs.State.{limit}
 use Rattle.damage.specs.History.{Told}
 use Rattle.damage.specs.Calls.{Call, give, lend-short, Heard, belonging, countOf}
-use Rattle.decoder_bytes.specs.declared.reports.FedAnswer.{FedAnswer}
+use Rattle.report_numbers.specs.declared.FedAnswer.{FedAnswer}
 use Rattle.host_stream.specs.Stream.{feedCall, StreamFed}
 use Rattle.host_damage.specs.Numbers.{toldBy, usedOf}
 

@@ -11,7 +11,7 @@ use Rattle.system_common.specs.declared.SystemCommon.the-variants as y
 use Rattle.real_time.specs.Realtime.{realtimeOf}
 use Rattle.decoder.specs.Reports.{channel, common, frame}
 use Rattle.damage.specs.History.{Told, heardRealtime}
-use Rattle.decoder_bytes.specs.declared.reports.FedAnswer.{FedAnswer}
+use Rattle.report_numbers.specs.declared.FedAnswer.{FedAnswer}
 
 -- a channel message on the channel that the status byte's low four bits name
 abbrev pub onChannel : ℕ → ChannelMessage → List Told

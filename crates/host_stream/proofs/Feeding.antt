@@ -17,9 +17,9 @@ use Rattle.decoder.specs.declared.FeedAnswer.the-variants as a
 use Rattle.decoder.specs.Call.{Walked, call, answerOf as fedOf, answered, Feeds}
 use Rattle.boundary.specs.declared.Answer.{Answer}
 use Rattle.boundary.specs.Answer.{answerOf, Sends}
-use Rattle.decoder_bytes.specs.declared.reports.FedAnswer.{FedAnswer}
+use Rattle.report_numbers.specs.declared.FedAnswer.{FedAnswer}
 use Rattle.decoder_bytes.specs.State.{isState, stateOf, encoded}
-use Rattle.decoder_bytes.specs.Reports.{numbersOf}
+use Rattle.report_numbers.specs.Reports.{numbersOf}
 use Rattle.host_stream.specs.Stream.{stateWrite, refusedFeed, feedCall, fedAnswer, stateAfter, StreamFed}
 
 -- bytes that are no state

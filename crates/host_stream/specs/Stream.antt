@@ -9,9 +9,9 @@ use Rattle.decoder.specs.declared.Decoder.{Decoder}
 use Rattle.decoder.specs.State.{reset}
 use Rattle.decoder.specs.Call.{Walked, call, storeOf}
 use Rattle.boundary.specs.Answer.{flag}
-use Rattle.decoder_bytes.specs.declared.reports.FedAnswer.{FedAnswer}
+use Rattle.report_numbers.specs.declared.FedAnswer.{FedAnswer}
 use Rattle.decoder_bytes.specs.State.{isState, stateOf, encoded}
-use Rattle.decoder_bytes.specs.Reports.{numbersOf}
+use Rattle.report_numbers.specs.Reports.{numbersOf}
 
 -- a state that is written to the lent bytes; 20 where they are not fourteen
 abbrev pub stateWrite : Decoder → List ℕ → Outcome (List ℕ)

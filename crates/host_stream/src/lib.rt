@@ -6,9 +6,9 @@ ghost use Rattle.host_stream.specs.Stream.{stateWrite, resetWrite, openO
 use boundary::Answer;
 use decoder::Decoder;
 use decoder::FeedAnswer;
-use decoder_bytes::FedAnswer;
 use decoder_bytes::STATE_LEN;
 use refusal::Refusal;
+use report_numbers::FedAnswer;
 
 // The frame limit.
 #[no_mangle]
@@ -85,7 +85,7 @@ pub extern "C" fn dm_feed(state: &mut [u8], store: &mut [u8], bytes: &[u8]) -> F
             let next = fed.state;
             let report = fed.report;
             decoder_bytes::put_state(next, state);
-            decoder_bytes::reports::numbers(fed.used, fed.interrupted, report)
+            report_numbers::numbers(fed.used, fed.interrupted, report)
         }
     }
 }

@@ -12,7 +12,7 @@ use Rattle.decoder.specs.declared.Report.{Report}
 use Rattle.decoder.specs.declared.Report.the-variants as r
 use Rattle.decoder.specs.declared.MaybeReport.{MaybeReport}
 use Rattle.decoder.specs.declared.MaybeReport.the-variants as o
-use Rattle.decoder_bytes.specs.declared.reports.FedAnswer.{FedAnswer}
+use Rattle.report_numbers.specs.declared.FedAnswer.{FedAnswer}
 
 -- a report's kind: 1 a channel message, 2 a frame, 3 a system common message, 4 a real-time message; 18 and 19 as document 01's numbers
 abbrev pub reportKind : Report → ℕ

@@ -1,7 +1,7 @@
 -- `status` meets its contract: a channel message's status byte is its nibble and its channel.
 use borrow.Author.Needs.{needs}
-use Rattle.decoder_bytes.proofs.reports.status.Statement.{statement}
-use Rattle.decoder_bytes.proofs.reports.status.Tie as tie
+use Rattle.report_numbers.proofs.status.Statement.{statement}
+use Rattle.report_numbers.proofs.status.Tie as tie
 
 enum-known-report : tie.Need-enum-known-report
 enum-known-report c = search needs

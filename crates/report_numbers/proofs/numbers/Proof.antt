@@ -1,7 +1,7 @@
 -- `numbers` meets its contract: each number is the report's.
 use borrow.Author.Needs.{needs}
-use Rattle.decoder_bytes.proofs.reports.numbers.Statement.{statement}
-use Rattle.decoder_bytes.proofs.reports.numbers.Tie as tie
+use Rattle.report_numbers.proofs.numbers.Statement.{statement}
+use Rattle.report_numbers.proofs.numbers.Tie as tie
 
 flag-of-requires : tie.Need-flag-of-requires
 flag-of-requires c κs = search needs

@@ -1,6 +1,6 @@
 // A decoder's reports in plain numbers.
 ghost use mathlib.Core.Path.{_≡_};
-ghost use Rattle.decoder_bytes.specs.Reports.{commonStatusOf, messageFirst, messageSecond, commonValue, reportKind, reportStatus, reportFirst, reportSecond, numbersOf};
+ghost use Rattle.report_numbers.specs.Reports.{commonStatusOf, messageFirst, messageSecond, commonValue, reportKind, reportStatus, reportFirst, reportSecond, numbersOf};
 use channel_message::ChannelMessage;
 use decoder::MaybeReport;
 use decoder::Report;
