@@ -2,12 +2,9 @@
 use mathlib.Core.Path.{_≡_, refl, ap, sym, _∙_}
 use mathlib.Core.Bool.{Bool, true, false}
 use mathlib.Core.List.{List, []}
-use Prim.Native.Nat.{ℕ, _+_, _-_, _≤_, _<_}
+use Prim.Native.Nat.{ℕ, _+_, _-_, _≤_}
 use native.Mathlib.Omega.{arith}
-use lib.Dec.{leb}
 use lib.ListN.{length, take, drop, length-drop}
-use borrow.Author.Tests.{le-leb, lt-leb}
-use Rattle.laws.specs.Choice.{pick}
 use Rattle.refusal.specs.declared.Refusal.{Refusal}
 use Rattle.refusal.specs.Outcome.{Outcome, gives, refusal}
 use Rattle.payload.specs.Wire.{carriesRun, fieldList}
@@ -15,8 +12,6 @@ use Rattle.frame_reader.specs.declared.Record.{Record}
 use Rattle.frame_reader.specs.Reader.{readRecord, runIn, runOf, payload, placeIn}
 use Rattle.frame_reader.proofs.Accepted.{described}
 use Rattle.frame_reader.proofs.RunPlace.{prefix-there, length-payload, run-part}
-use Rattle.boundary.specs.declared.Answer.{Answer}
-use Rattle.boundary.specs.Answer.{answerOf, noRecord}
 use Rattle.host_frames.specs.declared.ReadAnswer.{ReadAnswer}
 use Rattle.host_frames.specs.Frames.{numbersOf, readAnswer}
 
@@ -62,10 +57,3 @@ module _ (bytes : List ℕ) (r : Record) (h : gives r ≡ readRecord bytes) wher
           let n = length (fieldList (r .command) (r .fields .«has_pattern»)) in
           rw (← h, ← length-told n c refl, ← start-told n c refl, c, run-part bytes n)
       go false c = rw (← h, c)
-
--- the length of a message by its command: a flag that names no record, a command that is none, or the length below
-pub length-unnamed : (has : ℕ) (o : Outcome ℕ) (a : Answer) → 1 < has → a ≡ noRecord → a ≡ pick (leb has 1) (answerOf o) noRecord
-length-unnamed has o a h e = rw (lt-leb has 1 h) e
-
-pub length-named : (has : ℕ) (o : Outcome ℕ) (a : Answer) → has ≤ 1 → a ≡ answerOf o → a ≡ pick (leb has 1) (answerOf o) noRecord
-length-named has o a h e = rw (le-leb has 1 h) e

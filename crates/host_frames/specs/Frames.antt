@@ -1,17 +1,14 @@
 -- Frames at the boundary: every field a plain number, the run by its place in the caller's bytes.
 use mathlib.Core.List.{List}
 use Prim.Native.Nat.{ℕ}
-use lib.Dec.{eqb}
 use lib.ListN.{length, getD}
-use Rattle.refusal.specs.Outcome.{Outcome, gives, refused, andThen}
+use Rattle.refusal.specs.Outcome.{Outcome, gives, refused}
 use Rattle.ids.specs.declared.DeviceId.{DeviceId}
 use Rattle.command.specs.declared.Command.{Command}
-use Rattle.command.specs.Command.{codeOf, commandOf}
+use Rattle.command.specs.Command.{codeOf}
 use Rattle.fields.specs.declared.Fields.{Fields}
-use Rattle.message.specs.Head.{headFrom}
 use Rattle.frame_reader.specs.declared.Record.{Record}
 use Rattle.frame_reader.specs.Reader.{runIn, placeIn}
-use Rattle.frame_writer.specs.Writer.{headLength}
 use Rattle.boundary.specs.Answer.{flag}
 use Rattle.boundary.specs.Device.{everyoneOf, unitOf}
 use Rattle.host_frames.specs.declared.ReadAnswer.{ReadAnswer}
@@ -68,12 +65,3 @@ readAnswer (refused n values) bytes =
       «run_start» = 0;
       «run_len» = 0;
     }
-
--- plain numbers as fields
-abbrev pub fieldsFrom : ℕ → ℕ → ℕ → ℕ → ℕ → ℕ → ℕ → ℕ → ℕ → ℕ → Fields
-fieldsFrom free version bank program last pattern has interface rx tx =
-    record { free = free; version = version; bank = bank; program = program; last = last; pattern = pattern; «has_pattern» = eqb has 1; interface = interface; rx = rx; tx = tx }
-
--- the length of a command's message beside a run: no field but a pattern's flag plays a part. 6, then 22
-abbrev pub lengthAsked : ℕ → ℕ → ℕ → Outcome ℕ
-lengthAsked code has run = andThen (commandOf code) (λ k. headLength (headFrom k (fieldsFrom 0 0 0 0 0 0 has 0 0 0)) run)

@@ -1,6 +1,6 @@
 -- `dm_frame_len` meets its contract: the flag, the command, then the length that the call below it answered.
-use Rattle.host_frames.proofs.Told.{length-unnamed, length-named}
-use Rattle.host_frames.specs.Frames.{lengthAsked, fieldsFrom}
+use Rattle.host_sent_frames.proofs.Named.{length-unnamed, length-named}
+use Rattle.host_sent_frames.specs.Sent.{lengthAsked, fieldsFrom}
 use Rattle.boundary.specs.Answer.{answerOf}
 use Rattle.frame_writer.specs.Writer.{headLength}
 use Rattle.message.specs.Head.{headFrom}
@@ -12,10 +12,10 @@ use Prim.Native.Nat.{ℕ}
 use native.Mathlib.Omega.{arith}
 use mathlib.Core.Path.{ap, sym, _∙_}
 use borrow.Author.Needs.{needs}
-use Rattle.host_frames.proofs.dm_frame_len.Statement.{statement}
-use Rattle.host_frames.proofs.dm_frame_len.Tie as tie
-use Rattle.host_frames.proofs.dm_frame_len.Reads as reads
-use Rattle.host_frames.proofs.dm_frame_len.Lts as lts
+use Rattle.host_sent_frames.proofs.dm_frame_len.Statement.{statement}
+use Rattle.host_sent_frames.proofs.dm_frame_len.Tie as tie
+use Rattle.host_sent_frames.proofs.dm_frame_len.Reads as reads
+use Rattle.host_sent_frames.proofs.dm_frame_len.Lts as lts
 use Rattle.boundary.proofs.count.Reads as count-reads
 use Rattle.boundary.proofs.no_record.Reads as no-record-reads
 use Rattle.boundary.proofs.refused.Reads as refused-reads

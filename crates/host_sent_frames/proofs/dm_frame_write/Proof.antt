@@ -1,5 +1,5 @@
 -- `dm_frame_write` meets its contract: flags that name no record leave every byte; else the call below it wrote.
-use Rattle.host_frames.specs.Frames.{fieldsFrom}
+use Rattle.host_sent_frames.specs.Sent.{fieldsFrom}
 use Rattle.frame_writer.specs.Writer.{recordWrite}
 use Rattle.boundary.proofs.Answers.{named-told, unnamed-told, writer-told}
 use Rattle.boundary.specs.Device.{deviceFrom}
@@ -13,10 +13,10 @@ use native.Mathlib.Omega.{arith}
 use mathlib.Core.Bool.{_&&_}
 use mathlib.Core.Path.{subst}
 use borrow.Author.Needs.{needs}
-use Rattle.host_frames.proofs.dm_frame_write.Statement.{statement}
-use Rattle.host_frames.proofs.dm_frame_write.Tie as tie
-use Rattle.host_frames.proofs.dm_frame_write.Reads as reads
-use Rattle.host_frames.proofs.dm_frame_write.Lts as lts
+use Rattle.host_sent_frames.proofs.dm_frame_write.Statement.{statement}
+use Rattle.host_sent_frames.proofs.dm_frame_write.Tie as tie
+use Rattle.host_sent_frames.proofs.dm_frame_write.Reads as reads
+use Rattle.host_sent_frames.proofs.dm_frame_write.Lts as lts
 use Rattle.boundary.proofs.count.Reads as count-reads
 use Rattle.boundary.proofs.device_of.Reads as device-of-reads
 use Rattle.boundary.proofs.no_record.Reads as no-record-reads
