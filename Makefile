@@ -7,6 +7,7 @@ KIT := rattle-kit-5b-plain logic 097e4c862dff5811
 SOURCES := $(or $(DEEPMIND_SRC),../shared/docs/src)
 export DEEPMIND_SRC := $(abspath $(SOURCES))
 HOST := $(patsubst crates/%/src/lib.rt,%,$(shell grep -ls no_mangle crates/*/src/lib.rt))
+BELOW := $(sort $(filter-out $(HOST),$(foreach name,$(HOST),$(shell sed -n 's/^$(name)://p' crates.txt))))
 LIBRARY := target/staticlib/libcobnutdrill.a
 CARGO := RUSTFLAGS="-D warnings" cargo
 IN_COMPARE := --quiet --release --offline --manifest-path compare/Cargo.toml --target-dir target/compare
@@ -32,12 +33,14 @@ kit:
 layout:
 	@rt fmt --check
 
-# The archive for C and Rust to link: the entry points of every crate host_*.
+# The archive for C and Rust to link: the entry points of every crate host_*. The crates below them are proved first, some at a time, since
+# rt staticlib proves what it lacks one after another.
 lib: kit $(LIBRARY)
 
 $(LIBRARY): $(shell find crates crates.txt -type f)
 	@command -v ar > /dev/null || { echo "make: ar is needed (binutils)" >&2; exit 1; }
 	@mkdir -p target/objects
+	@rt check $(BELOW) > target/lib.log 2>&1 || { tail -n 40 target/lib.log >&2; exit 1; }
 	@for name in $(HOST); do \
 		rt staticlib $$name > target/lib.log 2>&1 || { tail -n 40 target/lib.log >&2; exit 1; }; \
 		(cd target/objects && ar x ../staticlib/lib$$name.a) || exit 1; \
