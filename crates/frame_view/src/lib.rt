@@ -1,13 +1,10 @@
-// A frame whose packed run lies in the caller's bytes: thin calls over the reader and the writer.
+// A frame whose packed run lies in the caller's bytes: thin calls over the writer.
 ghost use mathlib.Core.Path.{_≡_};
 ghost use lib.ListN.{length};
 ghost use Rattle.refusal.specs.Outcome.{Writes};
-ghost use Rattle.message.specs.Head.{frameTold};
-ghost use Rattle.frame_reader.specs.Reader.{parsed, RunLent};
 ghost use Rattle.frame_writer.specs.Writer.{frameWrite};
 ghost use Rattle.frame_view.specs.View.{withRun, said};
 use ids::DeviceId;
-use message::FrameAnswer;
 use message::Head;
 use refusal::Count;
 
@@ -16,21 +13,6 @@ pub struct Frame<'a> {
     pub device: DeviceId,
     pub head: Head,
     pub run: &'a [u8],
-}
-
-// What the reader says of the bytes, and the run inside them; an empty run where the frame is refused or has none.
-pub struct Parsed<'a> {
-    pub answer: FrameAnswer,
-    pub run: &'a [u8],
-}
-
-// Reads a frame. Refuses 1 to 9 and 11 to 13 in the reader's order.
-pub fn parse<'a>(bytes: &'a [u8]) -> Parsed<'a>
-    ensures { λ r. ⌜ (frameTold (r .answer) ≡ parsed (now (bytes .entry))) × RunLent (bytes .entry) (r .run) ⌝ }
-{
-    let answer = frame_reader::parse(bytes);
-    let run = frame_reader::run_of(bytes);
-    Parsed { answer, run }
 }
 
 // The frame of what the reader said and the run.

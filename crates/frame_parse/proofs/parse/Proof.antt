@@ -51,13 +51,13 @@ use Rattle.frame_reader.proofs.run_of as run-of
 use Rattle.frame_reader.proofs.run_of.Symbol as run-of-def
 use Rattle.frame_reader.proofs.run_of.Symbol.{name as #run-of}
 use Rattle.frame_reader.proofs.run_of.Met as run-of-thm
-use Rattle.frame_view.specs.declared.Parsed.{Parsed}
-use Rattle.frame_view.proofs.Parsed as T
-use Rattle.frame_view.proofs.Parsed.Laws as T′
-use Rattle.frame_view.proofs.parse.Key.{name as #parse}
-use Rattle.frame_view.proofs.parse as parse
-use Rattle.frame_view.proofs.parse.Statement as stated
-use Rattle.frame_view.proofs.parse.Code as code
+use Rattle.frame_parse.specs.declared.Parsed.{Parsed}
+use Rattle.frame_parse.proofs.Parsed as T
+use Rattle.frame_parse.proofs.Parsed.Laws as T′
+use Rattle.frame_parse.proofs.parse.Key.{name as #parse}
+use Rattle.frame_parse.proofs.parse as parse
+use Rattle.frame_parse.proofs.parse.Statement as stated
+use Rattle.frame_parse.proofs.parse.Code as code
 
 abbrev stayed : Stays (parse.ended .signature .params) (parse.ended .kept)
 stayed = (stay-none-slice (0 ∷ []) tt (plain (λ _. u8)) yes, tt)
