@@ -2,10 +2,10 @@
 use crate::line;
 use crate::said;
 use channel_message::ChannelMessage;
+use device::DeviceAnswer;
+use device::DeviceId;
 use identity::Identity;
 use identity::Version;
-use ids::DeviceAnswer;
-use ids::DeviceId;
 use inquiry_reply::IdentityAnswer;
 use wire::Channel;
 

@@ -2,8 +2,8 @@
 use Prim.Native.Nat.{ℕ}
 use lib.Dec.{eqb}
 use Rattle.laws.specs.Choice.{pick}
-use Rattle.ids.specs.declared.DeviceId.{DeviceId}
-use Rattle.ids.specs.declared.DeviceId.the-variants as d
+use Rattle.device.specs.declared.DeviceId.{DeviceId}
+use Rattle.device.specs.declared.DeviceId.the-variants as d
 
 -- the device that the two numbers name: everyone above 0 is everyone (the entry points ask for 0 or 1 first), else the unit, in range or
 -- not

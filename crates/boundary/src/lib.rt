@@ -3,7 +3,7 @@ ghost use mathlib.Core.Path.{_≡_};
 ghost use Rattle.refusal.specs.Outcome.{gives, counted, refusal};
 ghost use Rattle.boundary.specs.Answer.{answerOf, noRecord, flag};
 ghost use Rattle.boundary.specs.Device.{deviceFrom, everyoneOf, unitOf};
-use ids::DeviceId;
+use device::DeviceId;
 use refusal::Count;
 use refusal::Refusal;
 

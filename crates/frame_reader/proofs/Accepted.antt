@@ -11,7 +11,7 @@ use Rattle.laws.specs.Choice.{pick}
 use Rattle.laws.proofs.Tests.{both, alike, alike-same}
 use Rattle.refusal.specs.Outcome.{Outcome, gives, unless}
 use Rattle.refusal.proofs.Given.{passed, passed-on, given-first}
-use Rattle.ids.specs.Device.{deviceOf}
+use Rattle.device.specs.Device.{deviceOf}
 use Rattle.command.specs.declared.Command.{Command}
 use Rattle.command.specs.Command.{codeOf, commandOf}
 use Rattle.command.specs.Payload as y

@@ -8,7 +8,7 @@ use lib.ListN.{length, getD, take, drop}
 use denote.Ref.{RefT, now}
 use Rattle.laws.specs.Choice.{pick}
 use Rattle.refusal.specs.Outcome.{Outcome, gives, refused, refusal, unless, andThen}
-use Rattle.ids.specs.Device.{deviceOf}
+use Rattle.device.specs.Device.{deviceOf}
 use Rattle.command.specs.Command.{commandOf}
 use Rattle.framing.specs.Framing.{whenFramed, whenSevenBit, body, sameBytes}
 use Rattle.message.specs.declared.head.Frame.{Frame}

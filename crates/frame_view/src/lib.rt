@@ -4,7 +4,7 @@ ghost use lib.ListN.{length};
 ghost use Rattle.refusal.specs.Outcome.{Writes};
 ghost use Rattle.frame_writer.specs.Writer.{frameWrite};
 ghost use Rattle.frame_view.specs.View.{withRun, said};
-use ids::DeviceId;
+use device::DeviceId;
 use message::Head;
 use refusal::Count;
 

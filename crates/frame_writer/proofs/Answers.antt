@@ -13,8 +13,8 @@ use Rattle.refusal.specs.declared.Count.the-variants as c
 use Rattle.refusal.specs.Outcome.{gives, unless, Writes}
 use Rattle.refusal.proofs.Given.{passed-on}
 use Rattle.refusal.proofs.Written.{counted-first, stopped, went-on}
-use Rattle.ids.specs.declared.DeviceId.{DeviceId}
-use Rattle.ids.specs.Device.{deviceByte}
+use Rattle.device.specs.declared.DeviceId.{DeviceId}
+use Rattle.device.specs.Device.{deviceByte}
 use Rattle.command.specs.declared.Command.{Command}
 use Rattle.command.specs.Command.{codeOf}
 use Rattle.fields.specs.declared.Fields.{Fields}

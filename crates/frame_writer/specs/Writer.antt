@@ -6,8 +6,8 @@ use lib.Dec.{ltb, leb}
 use lib.ListN.{length}
 use Rattle.laws.specs.Choice.{pick}
 use Rattle.refusal.specs.Outcome.{Outcome, gives, unless, andThen}
-use Rattle.ids.specs.declared.DeviceId.{DeviceId}
-use Rattle.ids.specs.Device.{deviceByte, deviceInRange}
+use Rattle.device.specs.declared.DeviceId.{DeviceId}
+use Rattle.device.specs.Device.{deviceByte, deviceInRange}
 use Rattle.command.specs.declared.Command.{Command}
 use Rattle.command.specs.Command.{codeOf, commandOf}
 use Rattle.framing.specs.Framing.{whenSevenBit}

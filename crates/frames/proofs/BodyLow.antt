@@ -10,9 +10,9 @@ use lib.Seq.{take-at}
 use borrow.Author.Tests.{lt-ltb, ltb-true}
 use Rattle.refusal.specs.Outcome.{gives}
 use Rattle.refusal.proofs.Given.{passed, passed-on, given-first}
-use Rattle.ids.specs.declared.DeviceId.{DeviceId}
-use Rattle.ids.specs.declared.DeviceId.the-variants as d
-use Rattle.ids.specs.Device.{deviceByte, deviceInRange}
+use Rattle.device.specs.declared.DeviceId.{DeviceId}
+use Rattle.device.specs.declared.DeviceId.the-variants as d
+use Rattle.device.specs.Device.{deviceByte, deviceInRange}
 use Rattle.command.specs.declared.Command.{Command}
 use Rattle.command.specs.Command.{codeOf}
 use Rattle.command.proofs.Table.{of-every}

@@ -10,7 +10,7 @@ use borrow.Author.Tests.{ltb-true}
 use Rattle.laws.proofs.Tests.{both}
 use Rattle.refusal.specs.Outcome.{Outcome, gives, unless}
 use Rattle.refusal.proofs.Given.{given-first}
-use Rattle.ids.specs.Device.{deviceByte, deviceInRange}
+use Rattle.device.specs.Device.{deviceByte, deviceInRange}
 use Rattle.command.specs.declared.Command.{Command}
 use Rattle.command.specs.declared.Command.the-variants as k
 use Rattle.command.specs.Payload as y

@@ -13,8 +13,8 @@ use Rattle.laws.specs.Tabulate.{tab}
 use Rattle.laws.proofs.Tests.{both}
 use Rattle.laws.proofs.Tabulate.{tab-same}
 use Rattle.refusal.specs.Outcome.{gives}
-use Rattle.ids.specs.Device.{deviceByte, deviceInRange}
-use Rattle.ids.proofs.Range.{device-in-range}
+use Rattle.device.specs.Device.{deviceByte, deviceInRange}
+use Rattle.device.proofs.Range.{device-in-range}
 use Rattle.command.specs.declared.Command.{Command}
 use Rattle.command.specs.declared.Command.the-variants as k
 use Rattle.command.specs.Command.{codeOf, commands}

@@ -1,9 +1,9 @@
 // What frames and identity messages share: F0 and F7 at the ends, and bytes below 80 between them.
 ghost use mathlib.Core.Path.{_≡_};
 ghost use lib.ListN.{getD};
-ghost use Rattle.ids.specs.Device.{deviceInRange};
+ghost use Rattle.device.specs.Device.{deviceInRange};
 ghost use Rattle.framing.specs.Framing.{framed, firstHigh, sameBytes};
-use ids::DeviceId;
+use device::DeviceId;
 
 pub const SYSEX_START: u8 = 0xF0;
 

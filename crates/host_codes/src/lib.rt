@@ -1,7 +1,7 @@
 // The device, channel, command and interface, each from a byte: the byte that stands for it, or the refusal.
 ghost use mathlib.Core.Path.{_≡_};
 ghost use Rattle.refusal.specs.Outcome.{gives, andThen};
-ghost use Rattle.ids.specs.Device.{deviceOf, deviceByte};
+ghost use Rattle.device.specs.Device.{deviceOf, deviceByte};
 ghost use Rattle.command.specs.Command.{commandOf, codeOf};
 ghost use Rattle.wire.specs.Channel.{channelOf};
 ghost use Rattle.interface.specs.Interface.{interfaceOf, interfaceByte};
@@ -12,9 +12,9 @@ use boundary::Answer;
 pub extern "C" fn dm_device(byte: u8) -> Answer
     ensures { λ r. ⌜ r ≡ answerOf (andThen (deviceOf byte) (λ x. gives (deviceByte x))) ⌝ }
 {
-    match ids::DeviceId::from_byte(byte) {
-        ids::DeviceAnswer::Ok(device) => boundary::done(device.to_byte() as u64),
-        ids::DeviceAnswer::Err(e) => boundary::refused(e),
+    match device::DeviceId::from_byte(byte) {
+        device::DeviceAnswer::Ok(device) => boundary::done(device.to_byte() as u64),
+        device::DeviceAnswer::Err(e) => boundary::refused(e),
     }
 }
 

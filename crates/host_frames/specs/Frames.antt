@@ -3,7 +3,7 @@ use mathlib.Core.List.{List}
 use Prim.Native.Nat.{ℕ}
 use lib.ListN.{length, getD}
 use Rattle.refusal.specs.Outcome.{Outcome, gives, refused}
-use Rattle.ids.specs.declared.DeviceId.{DeviceId}
+use Rattle.device.specs.declared.DeviceId.{DeviceId}
 use Rattle.command.specs.declared.Command.{Command}
 use Rattle.command.specs.Command.{codeOf}
 use Rattle.fields.specs.declared.Fields.{Fields}

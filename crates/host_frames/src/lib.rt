@@ -5,9 +5,9 @@ ghost use Rattle.refusal.specs.Outcome.{refusal};
 ghost use Rattle.frame_reader.specs.Reader.{readRecord};
 ghost use Rattle.host_frames.specs.Frames.{numbersOf, readAnswer};
 use command::Command;
+use device::DeviceId;
 use fields::Fields;
 use frame_reader::RecordAnswer;
-use ids::DeviceId;
 use refusal::Refusal;
 
 // What a frame says. number: 0 where it is read, else document 01's number with its details, and 0 behind them. everyone: 1 for device byte 7F, and

@@ -3,7 +3,7 @@ use mathlib.Core.Path.{_≡_, ap, _∙_}
 use Prim.Native.Nat.{ℕ}
 use Rattle.refusal.specs.declared.Refusal.{Refusal}
 use Rattle.refusal.specs.Outcome.{Outcome, gives, refusal}
-use Rattle.ids.specs.declared.DeviceId.{DeviceId}
+use Rattle.device.specs.declared.DeviceId.{DeviceId}
 use Rattle.boundary.specs.declared.Answer.{Answer}
 use Rattle.boundary.specs.Answer.{answerOf}
 use Rattle.boundary.specs.Device.{everyoneOf, unitOf}

@@ -3,7 +3,7 @@ use mathlib.Core.List.{List}
 use Prim.Native.Nat.{ℕ}
 use lib.ListN.{getD}
 use Rattle.refusal.specs.Outcome.{Outcome, gives, refused}
-use Rattle.ids.specs.declared.DeviceId.{DeviceId}
+use Rattle.device.specs.declared.DeviceId.{DeviceId}
 use Rattle.boundary.specs.Device.{everyoneOf, unitOf, deviceFrom}
 use Rattle.identity.specs.declared.Identity.{Identity}
 use Rattle.host_identity.specs.declared.RequestAnswer.{RequestAnswer}

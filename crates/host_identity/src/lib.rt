@@ -8,9 +8,9 @@ ghost use Rattle.inquiry_request.specs.Request.{readRequest, requestWrite};
 ghost use Rattle.inquiry_reply.specs.Reply.{readReply, replyWrite};
 ghost use Rattle.host_identity.specs.Identity.{requestAnswer, replyAnswer, identityFrom};
 use boundary::Answer;
+use device::DeviceAnswer;
 use identity::Identity;
 use identity::Version;
-use ids::DeviceAnswer;
 use inquiry_reply::IdentityAnswer;
 
 // What a request tells. number: 0 where it is read, else document 01's number with its detail, and 0 behind them. everyone: 1 where it asks every

@@ -1,7 +1,8 @@
 // The small numbers, each from a byte: the number inside, or the refusal.
 ghost use mathlib.Core.Path.{_≡_};
 ghost use Rattle.refusal.specs.Outcome.{gives, andThen};
-ghost use Rattle.ids.specs.Small.{bankOf, programOf, patternOf, versionOf, programDataLength};
+ghost use Rattle.ids.specs.Small.{bankOf, programOf, patternOf};
+ghost use Rattle.protocol.specs.Version.{versionOf, programDataLength};
 ghost use Rattle.boundary.specs.Answer.{answerOf};
 use boundary::Answer;
 
@@ -43,9 +44,9 @@ pub extern "C" fn dm_pattern(byte: u8) -> Answer
 pub extern "C" fn dm_version(byte: u8) -> Answer
     ensures { λ r. ⌜ r ≡ answerOf (andThen (versionOf byte) (λ x. gives (x .0))) ⌝ }
 {
-    match ids::ProtocolVersion::new(byte) {
-        ids::VersionAnswer::Ok(version) => boundary::done(version.get() as u64),
-        ids::VersionAnswer::Err(e) => boundary::refused(e),
+    match protocol::ProtocolVersion::new(byte) {
+        protocol::VersionAnswer::Ok(version) => boundary::done(version.get() as u64),
+        protocol::VersionAnswer::Err(e) => boundary::refused(e),
     }
 }
 
@@ -54,8 +55,8 @@ pub extern "C" fn dm_version(byte: u8) -> Answer
 pub extern "C" fn dm_program_data_len(byte: u8) -> Answer
     ensures { λ r. ⌜ r ≡ answerOf (andThen (versionOf byte) (λ x. gives (programDataLength (x .0)))) ⌝ }
 {
-    match ids::ProtocolVersion::new(byte) {
-        ids::VersionAnswer::Ok(version) => boundary::done(version.program_data_len() as u64),
-        ids::VersionAnswer::Err(e) => boundary::refused(e),
+    match protocol::ProtocolVersion::new(byte) {
+        protocol::VersionAnswer::Ok(version) => boundary::done(version.program_data_len() as u64),
+        protocol::VersionAnswer::Err(e) => boundary::refused(e),
     }
 }

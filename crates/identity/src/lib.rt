@@ -1,10 +1,10 @@
 // The identity that a unit answers an inquiry with.
 ghost use mathlib.Core.Path.{_≡_};
 ghost use mathlib.Core.List.{[], _∷_};
-ghost use Rattle.ids.specs.declared.Model.the-variants.{DeepMind6, DeepMind6X, DeepMind12, DeepMind12X, DeepMind12D, DeepMind12XD};
+ghost use Rattle.model.specs.declared.Model.the-variants.{DeepMind6, DeepMind6X, DeepMind12, DeepMind12X, DeepMind12D, DeepMind12XD};
 ghost use Rattle.identity.specs.Version.{versionOf, packedOf, atLeast, isVersion};
-use ids::DeviceId;
-use ids::Model;
+use device::DeviceId;
+use model::Model;
 
 // The second byte of a request and of a reply.
 pub const NON_REALTIME: u8 = 0x7E;

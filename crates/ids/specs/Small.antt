@@ -1,23 +1,18 @@
--- The small numbers of document 01: "Bank 0 to 7, program 0 to 127, pattern 0 to 31, protocol version 6 or 7."
+-- The small numbers of document 01: "Bank 0 to 7, program 0 to 127, pattern 0 to 31".
 -- Each is read from a byte, and a byte out of range is refused with its number and the byte itself.
-use mathlib.Core.Bool.{_||_}
 use mathlib.Core.List.{[], _∷_}
 use Prim.Native.Nat.{ℕ}
-use lib.Dec.{ltb, eqb}
-use Rattle.laws.specs.Choice.{pick}
+use lib.Dec.{ltb}
 use Rattle.refusal.specs.Outcome.{Outcome, gives, refusal, unless}
 use Rattle.ids.specs.declared.Bank.{Bank}
 use Rattle.ids.specs.declared.ProgramNumber.{ProgramNumber}
 use Rattle.ids.specs.declared.PatternNumber.{PatternNumber}
-use Rattle.ids.specs.declared.ProtocolVersion.{ProtocolVersion}
 use Rattle.ids.specs.declared.BankAnswer.{BankAnswer}
 use Rattle.ids.specs.declared.BankAnswer.the-variants as b
 use Rattle.ids.specs.declared.ProgramAnswer.{ProgramAnswer}
 use Rattle.ids.specs.declared.ProgramAnswer.the-variants as p
 use Rattle.ids.specs.declared.PatternAnswer.{PatternAnswer}
 use Rattle.ids.specs.declared.PatternAnswer.the-variants as t
-use Rattle.ids.specs.declared.VersionAnswer.{VersionAnswer}
-use Rattle.ids.specs.declared.VersionAnswer.the-variants as v
 
 -- "Bank 0 to 7"; 9 with the byte
 abbrev pub bankOf : ℕ → Outcome Bank
@@ -30,14 +25,6 @@ programOf n = unless (ltb n 128) 10 (n ∷ []) (gives (record { 0 = n }))
 -- "pattern 0 to 31"; 11 with the byte
 abbrev pub patternOf : ℕ → Outcome PatternNumber
 patternOf n = unless (ltb n 32) 11 (n ∷ []) (gives (record { 0 = n }))
-
--- "protocol version 6 or 7"; 8 with the byte
-abbrev pub versionOf : ℕ → Outcome ProtocolVersion
-versionOf n = unless (eqb n 6 || eqb n 7) 8 (n ∷ []) (gives (record { 0 = n }))
-
--- program and edit buffer: 242 raw bytes in version 6, else 245. (A version made by hand counts as 7, as in the Rust.)
-abbrev pub programDataLength : ℕ → ℕ
-programDataLength n = pick (eqb n 6) 242 245
 
 -- the answers in document 01's terms
 abbrev pub bankTold : BankAnswer → Outcome Bank
@@ -53,8 +40,3 @@ programTold (p.Err e) = refusal e
 abbrev pub patternTold : PatternAnswer → Outcome PatternNumber
 patternTold (t.Ok x) = gives x
 patternTold (t.Err e) = refusal e
-
--- the same for a protocol version
-abbrev pub versionTold : VersionAnswer → Outcome ProtocolVersion
-versionTold (v.Ok x) = gives x
-versionTold (v.Err e) = refusal e

@@ -1,10 +1,8 @@
 // The small numbers that every frame is made of: each is made from a byte by a call that refuses what is out of range.
 // A value made by hand may still hold any byte, so whoever writes one to the wire tests it again.
 ghost use mathlib.Core.Path.{_≡_};
-ghost use Rattle.ids.specs.Small.{bankOf, programOf, patternOf, versionOf, programDataLength};
-ghost use Rattle.ids.specs.Small.{bankTold, programTold, patternTold, versionTold};
-ghost use Rattle.ids.specs.Device.{deviceOf, deviceByte, deviceTold, reaches};
-ghost use Rattle.ids.specs.Model.{voices, keyboard};
+ghost use Rattle.ids.specs.Small.{bankOf, programOf, patternOf};
+ghost use Rattle.ids.specs.Small.{bankTold, programTold, patternTold};
 use refusal::Refusal;
 
 // Behringer's manufacturer number.
@@ -109,92 +107,6 @@ impl PatternNumber {
     }
 }
 
-// The protocol version that a dump carries.
-pub struct ProtocolVersion(pub u8);
-
-pub enum VersionAnswer {
-    Ok(ProtocolVersion),
-    Err(Refusal),
-}
-
-impl ProtocolVersion {
-    pub const V6: ProtocolVersion = ProtocolVersion(6);
-
-    pub const V7: ProtocolVersion = ProtocolVersion(7);
-
-    pub fn new(version: u8) -> VersionAnswer
-        ensures { λ r. ⌜ versionTold r ≡ versionOf version ⌝ }
-    {
-        if version == 6 {
-            return VersionAnswer::Ok(ProtocolVersion(version));
-        }
-        if version == 7 {
-            return VersionAnswer::Ok(ProtocolVersion(version));
-        }
-        VersionAnswer::Err(Refusal::UnsupportedProtocolVersion(version))
-    }
-
-    pub fn get(self) -> u8
-        ensures { λ r. ⌜ r ≡ self .0 ⌝ }
-    {
-        let byte = self.0;
-        byte
-    }
-
-    // How many raw bytes a program or edit buffer dump of this version carries.
-    pub fn program_data_len(self) -> usize
-        ensures { λ r. ⌜ r ≡ programDataLength (self .0) ⌝ }
-    {
-        if self.0 == 6 { 242 } else { 245 }
-    }
-}
-
-// Whom a frame is for: one unit, or everyone.
-pub enum DeviceId {
-    Unit(u8),
-    Broadcast,
-}
-
-pub enum DeviceAnswer {
-    Ok(DeviceId),
-    Err(Refusal),
-}
-
-impl DeviceId {
-    pub const BROADCAST_BYTE: u8 = 0x7F;
-
-    pub fn from_byte(byte: u8) -> DeviceAnswer
-        ensures { λ r. ⌜ deviceTold r ≡ deviceOf byte ⌝ }
-    {
-        if byte < 16 {
-            return DeviceAnswer::Ok(DeviceId::Unit(byte));
-        }
-        if byte == DeviceId::BROADCAST_BYTE {
-            return DeviceAnswer::Ok(DeviceId::Broadcast);
-        }
-        DeviceAnswer::Err(Refusal::InvalidDeviceId(byte))
-    }
-
-    pub fn to_byte(self) -> u8
-        ensures { λ r. ⌜ r ≡ deviceByte self ⌝ }
-    {
-        match self {
-            DeviceId::Unit(id) => id,
-            DeviceId::Broadcast => DeviceId::BROADCAST_BYTE,
-        }
-    }
-
-    // Does a message for self concern a unit that listens as listener?
-    pub fn addresses(self, listener: DeviceId) -> bool
-        ensures { λ r. ⌜ r ≡ reaches self listener ⌝ }
-    {
-        match self {
-            DeviceId::Broadcast => true,
-            DeviceId::Unit(id) => id == listener.to_byte(),
-        }
-    }
-}
-
 // A place where a program is stored.
 pub struct Slot {
     pub bank: Bank,
@@ -211,54 +123,5 @@ impl Slot {
         ensures { λ r. ⌜ r ≡ (record { bank = bank; number = number }) ⌝ }
     {
         Slot { bank, number }
-    }
-}
-
-// The synthesizers that share the model byte and the protocol.
-pub enum Model {
-    DeepMind6,
-    DeepMind6X,
-    DeepMind12,
-    DeepMind12X,
-    DeepMind12D,
-    DeepMind12XD,
-}
-
-impl Model {
-    pub const MODEL_ID: u8 = 0x20;
-
-    pub const ALL: [Model; 6] = [
-        Model::DeepMind6,
-        Model::DeepMind6X,
-        Model::DeepMind12,
-        Model::DeepMind12X,
-        Model::DeepMind12D,
-        Model::DeepMind12XD,
-    ];
-
-    pub fn voice_count(self) -> u8
-        ensures { λ r. ⌜ r ≡ voices self ⌝ }
-    {
-        match self {
-            Model::DeepMind6 => 6,
-            Model::DeepMind6X => 6,
-            Model::DeepMind12 => 12,
-            Model::DeepMind12X => 12,
-            Model::DeepMind12D => 12,
-            Model::DeepMind12XD => 12,
-        }
-    }
-
-    pub fn has_keyboard(self) -> bool
-        ensures { λ r. ⌜ r ≡ keyboard self ⌝ }
-    {
-        match self {
-            Model::DeepMind6 => true,
-            Model::DeepMind6X => true,
-            Model::DeepMind12 => true,
-            Model::DeepMind12X => true,
-            Model::DeepMind12D => false,
-            Model::DeepMind12XD => false,
-        }
     }
 }

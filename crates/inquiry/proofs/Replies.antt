@@ -12,8 +12,8 @@ use borrow.Author.Tests.{eqb-true}
 use Rattle.laws.proofs.Tests.{both}
 use Rattle.refusal.specs.Outcome.{gives, unless, andThen}
 use Rattle.refusal.proofs.Given.{passed, passed-on, given-first}
-use Rattle.ids.specs.declared.DeviceId.{DeviceId}
-use Rattle.ids.specs.Device.{deviceOf}
+use Rattle.device.specs.declared.DeviceId.{DeviceId}
+use Rattle.device.specs.Device.{deviceOf}
 use Rattle.framing.specs.Framing.{framed, sameBytes}
 use Rattle.framing.proofs.Bytes.{same-is, spelled}
 use Rattle.identity.specs.declared.Identity.{Identity}

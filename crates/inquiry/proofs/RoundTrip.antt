@@ -12,9 +12,9 @@ use borrow.Author.Tests.{eqb-true}
 use Rattle.laws.proofs.Tests.{both}
 use Rattle.refusal.specs.Outcome.{gives, unless}
 use Rattle.refusal.proofs.Given.{passed, passed-on}
-use Rattle.ids.specs.declared.DeviceId.{DeviceId}
-use Rattle.ids.specs.Device.{deviceOf, deviceInRange}
-use Rattle.ids.proofs.Range.{device-in-range, device-reads-back}
+use Rattle.device.specs.declared.DeviceId.{DeviceId}
+use Rattle.device.specs.Device.{deviceOf, deviceInRange}
+use Rattle.device.proofs.Range.{device-in-range, device-reads-back}
 use Rattle.framing.specs.Framing.{framed, sameBytes}
 use Rattle.framing.proofs.Bytes.{same-is, spelled}
 use Rattle.identity.specs.declared.Version.{Version}

@@ -6,8 +6,8 @@ use Prim.Native.Nat.{ℕ}
 use lib.Dec.{eqb}
 use lib.ListN.{length, getD, take, drop}
 use Rattle.refusal.specs.Outcome.{Outcome, gives, refusal, unless, andThen, withRoom}
-use Rattle.ids.specs.declared.DeviceId.{DeviceId}
-use Rattle.ids.specs.Device.{deviceOf, deviceByte, deviceInRange}
+use Rattle.device.specs.declared.DeviceId.{DeviceId}
+use Rattle.device.specs.Device.{deviceOf, deviceByte, deviceInRange}
 use Rattle.framing.specs.Framing.{whenFramed, sameBytes}
 use Rattle.identity.specs.declared.Identity.{Identity}
 use Rattle.identity.specs.Version.{versionOf, packedOf}

@@ -3,11 +3,11 @@ ghost use mathlib.Core.Path.{_≡_};
 ghost use lib.ListN.{length};
 ghost use Rattle.refusal.specs.Outcome.{Writes};
 ghost use Rattle.inquiry_reply.specs.Reply.{isReply, readReply, identityTold, replyWrite};
+use device::DeviceAnswer;
+use device::DeviceId;
 use identity::Identity;
 use identity::NON_REALTIME;
 use identity::Version;
-use ids::DeviceAnswer;
-use ids::DeviceId;
 use refusal::Count;
 use refusal::Refusal;
 

@@ -5,8 +5,8 @@ use Prim.Native.Nat.{ℕ}
 use lib.Dec.{eqb}
 use lib.ListN.{length, getD, take, drop}
 use Rattle.refusal.specs.Outcome.{Outcome, unless, withRoom}
-use Rattle.ids.specs.declared.DeviceId.{DeviceId}
-use Rattle.ids.specs.Device.{deviceOf, deviceByte, deviceInRange}
+use Rattle.device.specs.declared.DeviceId.{DeviceId}
+use Rattle.device.specs.Device.{deviceOf, deviceByte, deviceInRange}
 use Rattle.framing.specs.Framing.{whenFramed, sameBytes}
 
 -- the shape of a request between its ends: 7E, any device, 06 01

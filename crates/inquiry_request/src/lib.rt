@@ -2,11 +2,11 @@
 ghost use mathlib.Core.Path.{_≡_};
 ghost use lib.ListN.{length};
 ghost use Rattle.refusal.specs.Outcome.{Writes};
-ghost use Rattle.ids.specs.Device.{deviceTold};
+ghost use Rattle.device.specs.Device.{deviceTold};
 ghost use Rattle.inquiry_request.specs.Request.{isRequest, readRequest, requestWrite};
+use device::DeviceAnswer;
+use device::DeviceId;
 use identity::NON_REALTIME;
-use ids::DeviceAnswer;
-use ids::DeviceId;
 use refusal::Count;
 use refusal::Refusal;
 

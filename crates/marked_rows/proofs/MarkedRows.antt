@@ -5,7 +5,7 @@ use mathlib.Core.List.{List, [], _∷_}
 use Prim.Native.Nat.{ℕ, _≤_}
 use lib.ListN.{length}
 use Rattle.refusal.specs.Outcome.{gives, refused}
-use Rattle.ids.specs.declared.DeviceId.the-variants as d
+use Rattle.device.specs.declared.DeviceId.the-variants as d
 use Rattle.packed.specs.Packed.{packed, unpacked, unpackedLengthOf}
 use Rattle.packed_back.proofs.Rows.{row-a, row-b, row-c, row-d, row-e}
 use Rattle.channel_message.specs.declared.ChannelMessage.the-variants as w

@@ -3,6 +3,7 @@ ghost use mathlib.Core.Path.{_≡_};
 ghost use Rattle.message.specs.Head.{patternAt, commandOfHead, fieldsOf, headFrom, versionOfHead, recordFrame, frameTold};
 use command::Command;
 use command::CommandAnswer;
+use device::DeviceId;
 use fields::Fields;
 use fields::dump_fields;
 use fields::free_fields;
@@ -10,14 +11,13 @@ use fields::notify_fields;
 use fields::pattern_fields;
 use fields::request_fields;
 use ids::Bank;
-use ids::DeviceId;
 use ids::PatternNumber;
 use ids::ProgramNumber;
-use ids::ProtocolVersion;
 use interface::Interface;
 use payload::FieldsAnswer;
 use payload::carries_run;
 use payload::check;
+use protocol::ProtocolVersion;
 use refusal::Refusal;
 
 // The number of a stored pattern; the one being edited has none.

@@ -1,10 +1,10 @@
 // Frames, identity requests and replies, and why a frame is refused.
 use crate::then;
+use device::DeviceAnswer;
+use device::DeviceId;
 use fields::Fields;
 use identity::Identity;
 use identity::Version;
-use ids::DeviceAnswer;
-use ids::DeviceId;
 use inquiry_reply::IdentityAnswer;
 use message::Frame;
 use message::FrameAnswer;

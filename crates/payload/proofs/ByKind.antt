@@ -15,8 +15,8 @@ use Rattle.laws.proofs.Zeros.{getD-padded}
 use Rattle.refusal.specs.declared.Refusal.{Refusal}
 use Rattle.refusal.specs.Outcome.{Outcome, gives, refusal}
 use Rattle.refusal.proofs.Given.{passed, refused-too}
-use Rattle.ids.specs.declared.ProtocolVersion.{ProtocolVersion}
-use Rattle.ids.specs.Small.{versionOf}
+use Rattle.protocol.specs.declared.ProtocolVersion.{ProtocolVersion}
+use Rattle.protocol.specs.Version.{versionOf}
 use Rattle.command.specs.declared.Command.{Command}
 use Rattle.command.specs.declared.Command.the-variants as k
 use Rattle.command.specs.Payload as y

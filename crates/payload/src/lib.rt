@@ -9,9 +9,8 @@ use fields::free_fields;
 use fields::notify_fields;
 use fields::pattern_fields;
 use fields::request_fields;
-use ids::ProtocolVersion;
-use ids::USER_PATTERN_COUNT;
-use ids::VersionAnswer;
+use protocol::ProtocolVersion;
+use protocol::VersionAnswer;
 use refusal::Refusal;
 
 pub enum FieldsAnswer {

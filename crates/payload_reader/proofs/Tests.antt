@@ -16,8 +16,8 @@ use Rattle.command.specs.declared.Command.{Command}
 use Rattle.command.specs.declared.Command.the-variants as k
 use Rattle.command.specs.Command.{codeOf}
 use Rattle.command.specs.Payload as y
-use Rattle.command.specs.Payload.{Run, payloadOf, runLength, rawLengthFor}
-use Rattle.command.proofs.Table.{same-code, of-every}
+use Rattle.command.specs.Payload.{payloadOf, rawLengthFor}
+use Rattle.protocol.specs.Version.{programDataLength}
 use Rattle.packed.specs.Packed.{unpackedLength, unpackedLengthOf, packedLength}
 use Rattle.packed.proofs.Lengths.{unpacked-given}
 use Rattle.payload.specs.Wire.{carriesRun, optional, fieldsAt, fieldOk, smallChecked}

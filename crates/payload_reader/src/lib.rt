@@ -5,9 +5,9 @@ ghost use Rattle.payload.specs.Wire.{carriesRun, fieldsAt, fieldsTold};
 ghost use Rattle.payload_reader.specs.Payload.{accepted, numberedBy, early, readShort, readDump, readRun, versionIn, readPayload};
 use command::Command;
 use fields::Fields;
-use ids::ProtocolVersion;
-use ids::VersionAnswer;
 use payload::FieldsAnswer;
+use protocol::ProtocolVersion;
+use protocol::VersionAnswer;
 use refusal::Count;
 use refusal::Refusal;
 

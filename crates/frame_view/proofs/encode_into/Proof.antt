@@ -44,8 +44,8 @@ use Rattle.refusal.specs.declared.Count.{Count}
 use Rattle.refusal.specs.Outcome.{Writes}
 use Rattle.refusal.proofs.Count as R
 use Rattle.refusal.proofs.Count.Laws as R′
-use Rattle.ids.proofs.DeviceId as D
-use Rattle.ids.proofs.DeviceId.Laws as D′
+use Rattle.device.proofs.DeviceId as D
+use Rattle.device.proofs.DeviceId.Laws as D′
 use Rattle.message.proofs.head.Head as E
 use Rattle.message.proofs.head.Head.Laws as E′
 use Rattle.message.proofs.head.Frame as F

@@ -34,8 +34,8 @@ use denote.Triple.Entry.{onEntry}
 use denote.Triple.Spec.{Meets, tripleOf}
 use denote.Triple.Table.{entered}
 use denote.Triple.Walked.{says, Stays, stay-none, stay-none-slice, walkOf, goes-none, goes-none-slice, Walks, ends-at, walked, walk-meets}
-use Rattle.ids.proofs.DeviceId as D
-use Rattle.ids.proofs.DeviceId.Laws as D′
+use Rattle.device.proofs.DeviceId as D
+use Rattle.device.proofs.DeviceId.Laws as D′
 use Rattle.message.proofs.head.Head as E
 use Rattle.message.proofs.head.Head.Laws as E′
 use Rattle.message.specs.declared.head.Frame as m

@@ -1,6 +1,6 @@
 -- `dm_device` meets its contract: it answers what the call below it answered.
 use Rattle.boundary.proofs.Answers.{number-told, refusal-told}
-use Rattle.ids.specs.Device.{deviceTold, deviceOf, deviceByte}
+use Rattle.device.specs.Device.{deviceTold, deviceOf, deviceByte}
 use mathlib.Core.Path.{ap, sym, _∙_}
 use borrow.Author.Needs.{needs}
 use Rattle.host_codes.proofs.dm_device.Statement.{statement}

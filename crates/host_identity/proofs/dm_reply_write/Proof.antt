@@ -3,7 +3,7 @@ use Rattle.host_identity.specs.Identity.{identityFrom}
 use Rattle.inquiry_reply.specs.Reply.{replyWrite}
 use Rattle.boundary.proofs.Answers.{named-told, unnamed-told, writer-told}
 use Rattle.refusal.specs.Outcome.{Writes}
-use Rattle.ids.specs.declared.DeviceId.{DeviceId}
+use Rattle.device.specs.declared.DeviceId.{DeviceId}
 use borrow.Author.Tests.{le-leb, lt-leb}
 use lib.ListN.{length}
 use lib.Dec.{leb}

@@ -1,7 +1,7 @@
 -- `dm_request_read` meets its contract: it tells what the reader below it read.
 use Rattle.host_identity.proofs.Told.{request-told, request-refused}
 use Rattle.inquiry_request.specs.Request.{readRequest}
-use Rattle.ids.specs.Device.{deviceTold}
+use Rattle.device.specs.Device.{deviceTold}
 use mathlib.Core.Path.{ap, sym, _∙_}
 use borrow.Author.Needs.{needs}
 use Rattle.host_identity.proofs.dm_request_read.Statement.{statement}

@@ -1,7 +1,7 @@
 -- `dm_version` meets its contract: it answers what the call below it answered.
-use Rattle.ids.specs.declared.ProtocolVersion.{ProtocolVersion}
+use Rattle.protocol.specs.declared.ProtocolVersion.{ProtocolVersion}
 use Rattle.boundary.proofs.Answers.{number-told, refusal-told}
-use Rattle.ids.specs.Small.{versionTold, versionOf}
+use Rattle.protocol.specs.Version.{versionTold, versionOf}
 use mathlib.Core.Path.{ap, sym, _∙_}
 use borrow.Author.Needs.{needs}
 use Rattle.host_numbers.proofs.dm_version.Statement.{statement}

@@ -4,7 +4,7 @@ use Rattle.frame_writer.specs.Writer.{recordWrite}
 use Rattle.boundary.proofs.Answers.{named-told, unnamed-told, writer-told}
 use Rattle.boundary.specs.Device.{deviceFrom}
 use Rattle.refusal.specs.Outcome.{Writes}
-use Rattle.ids.specs.declared.DeviceId.{DeviceId}
+use Rattle.device.specs.declared.DeviceId.{DeviceId}
 use Rattle.laws.proofs.Tests.{and-true}
 use borrow.Author.Tests.{le-leb, lt-leb}
 use lib.ListN.{length}

@@ -1,6 +1,6 @@
 -- `request_into` meets its contract: 5, then 14, then six bytes stored one after another.
 use Rattle.inquiry_request.specs.Request.{requestBytes}
-use Rattle.ids.specs.Device.{deviceByte, deviceInRange}
+use Rattle.device.specs.Device.{deviceByte, deviceInRange}
 use Rattle.refusal.proofs.Written.{stopped, went-on, no-room, stored}
 use Rattle.refusal.specs.declared.Refusal.the-variants as r
 use borrow.Author.Tests.{not-true, not-false}

@@ -3,7 +3,7 @@ use mathlib.Core.Bool.{true, false}
 use Rattle.payload.proofs.ByKind.{checked-prefix, fields-five, version-refused, version-passed}
 use Rattle.payload.proofs.ByKind.{checked-prefix, version-refused, version-passed}
 use Rattle.payload.specs.Wire.{carriesRun, smallChecked}
-use Rattle.ids.specs.Small.{versionTold}
+use Rattle.protocol.specs.Version.{versionTold}
 use mathlib.Core.Path.{_≡_, ap, sym, _∙_}
 use borrow.Author.Needs.{needs}
 use Rattle.payload.proofs.check.Statement.{statement}

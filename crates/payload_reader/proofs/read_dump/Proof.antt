@@ -2,8 +2,8 @@
 use Rattle.payload_reader.proofs.Tests.{early-one}
 use Rattle.payload.proofs.ByKind.{version-refused, version-passed}
 use Rattle.payload_reader.specs.Payload.{prefixLength, early, readRun}
-use Rattle.ids.proofs.Range.{version-in-range}
-use Rattle.ids.specs.Small.{versionTold}
+use Rattle.protocol.proofs.Range.{version-in-range}
+use Rattle.protocol.specs.Version.{versionTold}
 use Rattle.command.specs.declared.Row.{Row}
 use borrow.Author.Tests.{le-leb, lt-leb}
 use lib.ListN.{length, getD}

@@ -3,7 +3,7 @@ use Rattle.message.specs.declared.head.Frame.{Frame}
 use Rattle.message.specs.declared.head.Head.{Head}
 use Rattle.refusal.specs.Outcome.{gives}
 use borrow.Author.Tests.{not-true, not-false}
-use Rattle.ids.specs.Device.{deviceInRange}
+use Rattle.device.specs.Device.{deviceInRange}
 use mathlib.Core.Bool.{true, false}
 use mathlib.Core.Path.{_≡_, ap, sym, _∙_}
 use borrow.Author.Needs.{needs}

@@ -5,10 +5,10 @@ use Prim.Native.Nat.{ℕ}
 use lib.Dec.{ltb, eqb}
 use Rattle.laws.specs.Choice.{pick}
 use Rattle.refusal.specs.Outcome.{Outcome, gives, refusal, unless}
-use Rattle.ids.specs.declared.DeviceId.{DeviceId}
-use Rattle.ids.specs.declared.DeviceId.the-variants as d
-use Rattle.ids.specs.declared.DeviceAnswer.{DeviceAnswer}
-use Rattle.ids.specs.declared.DeviceAnswer.the-variants as a
+use Rattle.device.specs.declared.DeviceId.{DeviceId}
+use Rattle.device.specs.declared.DeviceId.the-variants as d
+use Rattle.device.specs.declared.DeviceAnswer.{DeviceAnswer}
+use Rattle.device.specs.declared.DeviceAnswer.the-variants as a
 
 -- 00 to 0F a unit, 7F everyone; 5 with the byte for any other
 abbrev pub deviceOf : ℕ → Outcome DeviceId

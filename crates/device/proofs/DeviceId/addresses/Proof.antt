@@ -1,7 +1,7 @@
 -- `DeviceId::addresses` meets its contract: for a unit it compares the two bytes, as the definition does.
 use borrow.Author.Needs.{needs}
-use Rattle.ids.proofs.DeviceId.addresses.Statement.{statement}
-use Rattle.ids.proofs.DeviceId.addresses.Tie as tie
+use Rattle.device.proofs.DeviceId.addresses.Statement.{statement}
+use Rattle.device.proofs.DeviceId.addresses.Tie as tie
 
 enum-told : tie.Need-enum-told
 enum-told c = search needs

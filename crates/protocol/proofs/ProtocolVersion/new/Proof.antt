@@ -1,7 +1,7 @@
 -- `ProtocolVersion::new` meets its contract: its two tests are the definition's.
 use borrow.Author.Tests.{eq-eqb, ne-eqb}
-use Rattle.ids.proofs.ProtocolVersion.new.Statement.{statement}
-use Rattle.ids.proofs.ProtocolVersion.new.Tie as tie
+use Rattle.protocol.proofs.ProtocolVersion.new.Statement.{statement}
+use Rattle.protocol.proofs.ProtocolVersion.new.Tie as tie
 
 returns : tie.Need-returns
 returns c = rw (eq-eqb _ _ (c .if1 .taken))

@@ -1,7 +1,7 @@
 -- `ProtocolVersion::program_data_len` meets its contract: its test is the definition's.
 use borrow.Author.Tests.{eq-eqb, ne-eqb}
-use Rattle.ids.proofs.ProtocolVersion.program_data_len.Statement.{statement}
-use Rattle.ids.proofs.ProtocolVersion.program_data_len.Tie as tie
+use Rattle.protocol.proofs.ProtocolVersion.program_data_len.Statement.{statement}
+use Rattle.protocol.proofs.ProtocolVersion.program_data_len.Tie as tie
 
 returns : tie.Need-returns
 returns c = rw (eq-eqb _ _ (c .if1 .taken))

@@ -1,7 +1,7 @@
 -- `DeviceId::from_byte` meets its contract: its tests are the definition's, in the same order.
 use borrow.Author.Tests.{lt-ltb, le-ltb, eq-eqb, ne-eqb}
-use Rattle.ids.proofs.DeviceId.from_byte.Statement.{statement}
-use Rattle.ids.proofs.DeviceId.from_byte.Tie as tie
+use Rattle.device.proofs.DeviceId.from_byte.Statement.{statement}
+use Rattle.device.proofs.DeviceId.from_byte.Tie as tie
 
 returns : tie.Need-returns
 returns c = rw (lt-ltb _ _ (c .if1 .taken))
