@@ -14,9 +14,9 @@ use Rattle.decoder.specs.declared.Fed.{Fed}
 use Rattle.decoder.specs.declared.FeedAnswer.the-variants as f
 use Rattle.decoder.specs.State.{limit, fresh}
 use Rattle.decoder.specs.Call.{Walked, call, Feeds}
-use Rattle.decoder_in_place.specs.declared.Taken.{Taken}
-use Rattle.decoder_in_place.specs.declared.TakeAnswer.the-variants as a
-use Rattle.decoder_in_place.specs.InPlace.{FeedsInPlace}
+use Rattle.decoder_moved.specs.declared.Taken.{Taken}
+use Rattle.decoder_moved.specs.declared.TakeAnswer.the-variants as a
+use Rattle.decoder_moved.specs.InPlace.{FeedsInPlace}
 use Rattle.damage.specs.Sent.{Message, allSendable, Tag, allTagged, Sent}
 use Rattle.damage.specs.Damage.{arrives, expected}
 use Rattle.damage.specs.Calls.{Call, Heard, total, paced}

@@ -7,9 +7,9 @@ use Rattle.decoder.specs.declared.Decoder.{Decoder}
 use Rattle.decoder.specs.State.{limit}
 use Rattle.decoder.specs.Call.{call}
 use Rattle.decoder.specs.Reports.{reportList, toldAll}
-use Rattle.decoder_in_place.specs.declared.TakeAnswer.{TakeAnswer}
-use Rattle.decoder_in_place.specs.declared.TakeAnswer.the-variants as a
-use Rattle.decoder_in_place.specs.InPlace.{FeedsInPlace}
+use Rattle.decoder_moved.specs.declared.TakeAnswer.{TakeAnswer}
+use Rattle.decoder_moved.specs.declared.TakeAnswer.the-variants as a
+use Rattle.decoder_moved.specs.InPlace.{FeedsInPlace}
 use Rattle.damage.specs.History.{Told}
 use Rattle.damage.specs.Calls.{Call, give, lend-short, Heard, belonging, countOf}
 

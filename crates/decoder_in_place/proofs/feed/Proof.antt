@@ -46,17 +46,17 @@ use Rattle.decoder.specs.declared.Decoder.{Decoder}
 use Rattle.decoder.specs.Call.{call}
 use Rattle.decoder.proofs.Decoder as T
 use Rattle.decoder.proofs.Decoder.Laws as T′
-use Rattle.decoder_in_place.specs.declared.Next.{Next}
-use Rattle.decoder_in_place.specs.declared.TakeAnswer.{TakeAnswer}
-use Rattle.decoder_in_place.specs.InPlace.{FeedsInPlace}
-use Rattle.decoder_in_place.proofs.Next as N
-use Rattle.decoder_in_place.proofs.Next.Laws as N′
-use Rattle.decoder_in_place.proofs.TakeAnswer as E
-use Rattle.decoder_in_place.proofs.TakeAnswer.Laws as E′
-use Rattle.decoder_in_place.proofs.moved as moved
-use Rattle.decoder_in_place.proofs.moved.Symbol as moved-def
-use Rattle.decoder_in_place.proofs.moved.Symbol.{name as #moved}
-use Rattle.decoder_in_place.proofs.moved.Met as moved-thm
+use Rattle.decoder_moved.specs.declared.Next.{Next}
+use Rattle.decoder_moved.specs.declared.TakeAnswer.{TakeAnswer}
+use Rattle.decoder_moved.specs.InPlace.{FeedsInPlace}
+use Rattle.decoder_moved.proofs.Next as N
+use Rattle.decoder_moved.proofs.Next.Laws as N′
+use Rattle.decoder_moved.proofs.TakeAnswer as E
+use Rattle.decoder_moved.proofs.TakeAnswer.Laws as E′
+use Rattle.decoder_moved.proofs.moved as moved
+use Rattle.decoder_moved.proofs.moved.Symbol as moved-def
+use Rattle.decoder_moved.proofs.moved.Symbol.{name as #moved}
+use Rattle.decoder_moved.proofs.moved.Met as moved-thm
 use Rattle.decoder_in_place.proofs.feed.Key.{name as #feed}
 use Rattle.decoder_in_place.proofs.feed as feed
 use Rattle.decoder_in_place.proofs.feed.Statement as stated
@@ -176,4 +176,4 @@ feed-spec 𝓤 H 𝓜 𝓖 𝓡 =
     entered 𝓤 H (tripleOf 𝓤 H (𝓖 .A) feed.signature (feed.spec 𝓤 H (𝓖 .A) (𝓜 .mem) (𝓡 .run)))
     (tables 𝓤 H 𝓜 𝓡 code.env .C) (tables 𝓤 H 𝓜 𝓡 code.env .Λ) #feed code.function (code.unfolded 𝓤 H 𝓜 𝓡)
     (feed-meets 𝓤 H (𝓖 .A) (givenOf 𝓤 H 𝓜 𝓖) (𝓜 .mem) (𝓡 .run) (tablesOf 𝓤 H 𝓜 (tables 𝓤 H 𝓜 𝓡 code.env))
-    (cited 𝓤 H (Move 𝓤 H (𝓖 .A) (𝓜 .mem) (𝓡 .run)) 𝓜 𝓡 code.env #moved moved-def.routine code.calls-decoder-in-place·moved (moved-thm.met 𝓤 H 𝓜 𝓖 𝓡)))
+    (cited 𝓤 H (Move 𝓤 H (𝓖 .A) (𝓜 .mem) (𝓡 .run)) 𝓜 𝓡 code.env #moved moved-def.routine code.calls-decoder-moved·moved (moved-thm.met 𝓤 H 𝓜 𝓖 𝓡)))

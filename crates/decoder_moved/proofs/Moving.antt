@@ -11,8 +11,8 @@ use Rattle.decoder.specs.declared.Fed.{Fed}
 use Rattle.decoder.specs.declared.FeedAnswer.{FeedAnswer}
 use Rattle.decoder.specs.declared.FeedAnswer.the-variants as f
 use Rattle.decoder.specs.Call.{Walked, Feeds}
-use Rattle.decoder_in_place.specs.declared.TakeAnswer.the-variants as a
-use Rattle.decoder_in_place.specs.InPlace.{FeedsInPlace}
+use Rattle.decoder_moved.specs.declared.TakeAnswer.the-variants as a
+use Rattle.decoder_moved.specs.InPlace.{FeedsInPlace}
 
 pub feeds : (o : Outcome Walked) (r : FeedAnswer) (x : Fed) (d : Decoder) (before afterwards : List ℕ) → r ≡ f.Ok x → Feeds o r before afterwards
     → FeedsInPlace o (a.Ok (record { used = x .used; interrupted = x .interrupted; report = x .report })) d (x .state) before afterwards

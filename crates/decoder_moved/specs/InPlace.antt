@@ -6,9 +6,9 @@ use Rattle.refusal.specs.Outcome.{Outcome, gives, refused, refusal}
 use Rattle.decoder.specs.declared.Decoder.{Decoder}
 use Rattle.decoder.specs.declared.Fed.{Fed}
 use Rattle.decoder.specs.Call.{Walked, answerOf, storeOf}
-use Rattle.decoder_in_place.specs.declared.Taken.{Taken}
-use Rattle.decoder_in_place.specs.declared.TakeAnswer.{TakeAnswer}
-use Rattle.decoder_in_place.specs.declared.TakeAnswer.the-variants as a
+use Rattle.decoder_moved.specs.declared.Taken.{Taken}
+use Rattle.decoder_moved.specs.declared.TakeAnswer.{TakeAnswer}
+use Rattle.decoder_moved.specs.declared.TakeAnswer.the-variants as a
 
 -- what is answered: all but the state, which stands behind the reference
 abbrev pub takenOf : Outcome Walked → Outcome Taken

@@ -1,10 +1,10 @@
 -- `moved` meets its contract: by the answer of `Decoder::feed`, fed or refused.
-use Rattle.decoder_in_place.proofs.Moving.{feeds, refuses}
+use Rattle.decoder_moved.proofs.Moving.{feeds, refuses}
 use borrow.Author.Needs.{needs}
-use Rattle.decoder_in_place.proofs.moved.Statement.{statement}
-use Rattle.decoder_in_place.proofs.moved.Tie as tie
-use Rattle.decoder_in_place.proofs.moved.Reads as reads
-use Rattle.decoder_in_place.proofs.moved.Lts as lts
+use Rattle.decoder_moved.proofs.moved.Statement.{statement}
+use Rattle.decoder_moved.proofs.moved.Tie as tie
+use Rattle.decoder_moved.proofs.moved.Reads as reads
+use Rattle.decoder_moved.proofs.moved.Lts as lts
 use Rattle.decoder.proofs.Decoder.feed.Reads as feed-reads
 
 -- src/lib.rt:34:9
