@@ -22,9 +22,10 @@ quietRun d bytes = dataRun (take (reach d (length bytes)) bytes)
 abbrev pub longerBy : Decoder → ℕ → Decoder
 longerBy d n = record { in_sysex = true; len = d .len + n; status = s.None; have = 0; data0 = d .data0; data1 = d .data1 }
 
--- the state and the store behind such a run
+-- the state behind such a run
 abbrev pub runState : Decoder → ℕ → Decoder
 runState d n = pick (d .in_sysex) (longerBy d n) d
 
+-- and the store
 abbrev pub runStore : Decoder → List ℕ → List ℕ → List ℕ
 runStore d store run = pick (d .in_sysex) (window store (d .len) run) store

@@ -19,7 +19,7 @@ use Rattle.payload.specs.Wire.{optional, fieldList}
 use Rattle.frame_reader.specs.declared.Record.{Record}
 use Rattle.payload_reader.specs.Payload.{numberedBy, prefixLength}
 use Rattle.frame_reader.specs.Reader.{payload}
-use Rattle.payload_reader.proofs.Tests.{numbered-short}
+use Rattle.payload_reader.proofs.Tests.{numbered-short, optional-is}
 use Rattle.frame_reader.proofs.Accepted.{Described}
 
 -- dropping from a part of a list

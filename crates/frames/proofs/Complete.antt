@@ -23,7 +23,8 @@ use Rattle.payload.specs.Wire.{carriesRun, optional, fieldList, fieldsAt, allFi
 use Rattle.frame_reader.specs.declared.Record.{Record}
 use Rattle.payload_reader.specs.Payload.{accepted, numberedBy, prefixLength, early, isAny, whenRun, versionIn, readFields, readShort, readRun, readDump, readPayload}
 use Rattle.frame_reader.specs.Reader.{payload, maker, readRecord}
-use Rattle.frame_reader.proofs.Accepted.{Payload, Described, runFits, described, fit-given}
+use Rattle.payload.proofs.ByKind.{version-leads}
+use Rattle.frame_reader.proofs.Accepted.{Payload, Described, runFits, described, fit-given, no-option}
 
 -- a dump's first byte is its version
 version-fits : (c : Command) (b : Bool) (p : List ℕ) → carriesRun c ≡ true → allFit (fieldList c b) p 0 ≡ true → versionIn p ≡ true

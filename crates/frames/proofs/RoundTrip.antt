@@ -28,7 +28,7 @@ use Rattle.payload.specs.Wire.{carriesRun, fieldList, fieldsAt, wire, prefixOf,
 use Rattle.frame_reader.specs.declared.Record.{Record}
 use Rattle.payload_reader.specs.Payload.{numberedBy, prefixLength}
 use Rattle.frame_reader.specs.Reader.{payload, maker, readRecord, runIn, runOf}
-use Rattle.frame_reader.proofs.Accepted.{Described, described, fit-given}
+use Rattle.frame_reader.proofs.Accepted.{Described, described, fit-given, no-option}
 use Rattle.frame_reader.proofs.RunPlace.{own-list, length-payload, prefix-there}
 use Rattle.frame_writer.specs.Writer.{header, row, ownRun, recordWrite}
 

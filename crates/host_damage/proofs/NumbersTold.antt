@@ -12,6 +12,7 @@ use Rattle.system_common.specs.declared.SystemCommon.the-variants as y
 use Rattle.real_time.specs.declared.Realtime.{Realtime}
 use Rattle.real_time.specs.declared.Realtime.the-variants as t
 use Rattle.channel_message.specs.Message.{statusNibble}
+use Rattle.read_back.proofs.ReadBack.{kind}
 use Rattle.decoder.specs.declared.Report.{Report}
 use Rattle.decoder.specs.declared.Report.the-variants as r
 use Rattle.decoder.specs.declared.MaybeReport.{MaybeReport}

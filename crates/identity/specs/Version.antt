@@ -17,5 +17,6 @@ packedOf v = 16 * (v .minor % 8) + v .major % 16
 abbrev pub atLeast : Version → ℕ → ℕ → Bool
 atLeast v major minor = pick (eqb (v .major) major) (leb minor (v .minor)) (ltb major (v .major))
 
+-- just this version
 abbrev pub isVersion : Version → ℕ → ℕ → Bool
 isVersion v major minor = eqb (v .major) major && eqb (v .minor) minor

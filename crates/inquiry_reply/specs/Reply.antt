@@ -30,6 +30,7 @@ abbrev pub readReply : List ℕ → Outcome Identity
 readReply bytes =
     whenFramed bytes (unless (isReply bytes) 16 [] (andThen (deviceOf (getD bytes 2 0)) (λ d. gives (identityAt d bytes))))
 
+-- the code's answer in document 01's terms
 abbrev pub identityTold : IdentityAnswer → Outcome Identity
 identityTold (a.Ok x) = gives x
 identityTold (a.Err e) = refusal e

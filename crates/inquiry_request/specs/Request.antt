@@ -17,6 +17,7 @@ isRequest bytes = eqb (length bytes) 6 && eqb (getD bytes 1 0) 0x7E && sameBytes
 abbrev pub readRequest : List ℕ → Outcome DeviceId
 readRequest bytes = whenFramed bytes (unless (isRequest bytes) 15 [] (deviceOf (getD bytes 2 0)))
 
+-- "Request F0 7E device 06 01 F7"
 abbrev pub requestBytes : DeviceId → List ℕ
 requestBytes d = 0xF0 ∷ 0x7E ∷ deviceByte d ∷ 0x06 ∷ 0x01 ∷ 0xF7 ∷ []
 

@@ -21,6 +21,7 @@ use Rattle.command.specs.declared.Command.{Command}
 use Rattle.command.specs.declared.Command.the-variants as k
 use Rattle.command.specs.Payload as y
 use Rattle.command.specs.Payload.{Field}
+use Rattle.command.proofs.Table.{of-every}
 use Rattle.fields.specs.declared.Fields.{Fields}
 use Rattle.fields.specs.Fields.{patternFields}
 use Rattle.payload.specs.Wire.{tag, valueOf, secondOf, optional, fieldList, fieldsIn, fieldsAt, carriesRun, checked, fieldOk, smallChecked, wire, prefixOf, Padded, checkedFields}

@@ -6,8 +6,9 @@ use Prim.Native.Nat.{ℕ, _+_, _-_, _%_, _≤_, _<_}
 use native.Mathlib.Omega.{arith}
 use lib.Dec.{ltb, leb, eqb}
 use lib.ListN.{length, getD}
-use borrow.Author.Tests.{le-leb, lt-leb, lt-ltb, le-ltb, eq-eqb, ne-eqb, ltb-true, ltb-false}
+use borrow.Author.Tests.{le-leb, lt-leb, lt-ltb, le-ltb, eq-eqb, ne-eqb, eqb-true, ltb-true, ltb-false, leb-true}
 use Rattle.laws.specs.Choice.{pick}
+use Rattle.laws.proofs.Tests.{by-test, split, alike, alike-same}
 use Rattle.refusal.specs.declared.Refusal.{Refusal}
 use Rattle.refusal.specs.Refusal.{numberOf, valuesOf}
 use Rattle.refusal.specs.Outcome.{gives, refused, refusal, unless}
@@ -16,13 +17,13 @@ use Rattle.command.specs.declared.Command.{Command}
 use Rattle.command.specs.declared.Command.the-variants as k
 use Rattle.command.specs.Command.{codeOf}
 use Rattle.command.specs.Payload as y
-use Rattle.command.specs.Payload.{payloadOf, rawLengthFor}
-use Rattle.protocol.specs.Version.{programDataLength}
+use Rattle.command.specs.Payload.{Run, payloadOf, runLength, rawLengthFor}
+use Rattle.command.proofs.Table.{same-code, of-every}
 use Rattle.packed.specs.Packed.{unpackedLength, unpackedLengthOf, packedLength}
 use Rattle.packed.proofs.Lengths.{unpacked-given}
 use Rattle.payload.specs.Wire.{carriesRun, optional, fieldsAt, fieldOk, smallChecked}
 use Rattle.payload.proofs.ByKind.{checked-by-kind, version-first}
-use Rattle.payload_reader.specs.Payload.{accepted, numberedBy, prefixLength, early, wrongLength, readFields, isAny, versionIn, readRun}
+use Rattle.payload_reader.specs.Payload.{accepted, numberedBy, prefixLength, early, whenLength, readFields, isAny, versionIn, readRun}
 
 -- lengths that do not unpack are not accepted
 pub not-unpacked : (raw n : ℕ) (e : Refusal) → refusal e ≡ unpackedLengthOf n → false ≡ accepted raw n

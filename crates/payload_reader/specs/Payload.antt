@@ -26,13 +26,14 @@ numberedBy n = not (accepted 65 (n - 1)) && accepted 65 (n - 2)
 abbrev pub prefixLength : Command → ℕ
 prefixLength k = length (payloadOf k .fields)
 
--- "version missing (7)"; "For 0B and 0D both prefix bytes are tested before the version"
+-- how many payload bytes must be there before the version is looked at: "version missing (7)"; "For 0B and 0D both prefix bytes are
+-- tested before the version"
 abbrev pub early : Command → ℕ
 early k = pick (eqb (codeOf k) 0x0B || eqb (codeOf k) 0x0D) 2 1
 
--- 7 carries the command, the expected length and the one found
-abbrev pub wrongLength : {A : Type 0} → Bool → Command → ℕ → List ℕ → Outcome A → Outcome A
-wrongLength ok k expected p next = unless ok 7 (codeOf k ∷ expected ∷ length p ∷ []) next
+-- 7 where a length does not fit: it carries the command, the expected length and the one found
+abbrev pub whenLength : {A : Type 0} → Bool → Command → ℕ → List ℕ → Outcome A → Outcome A
+whenLength ok k expected p next = unless ok 7 (codeOf k ∷ expected ∷ length p ∷ []) next
 
 -- the fields in wire order, and what they say
 abbrev pub readFields : Command → Bool → List ℕ → Outcome Fields
@@ -40,7 +41,7 @@ readFields k numbered p = checked (fieldList k numbered) p 0 (gives (fieldsAt k 
 
 -- "A short payload: length (7), then fields in wire order"
 abbrev pub readShort : Command → List ℕ → Outcome Fields
-readShort k p = wrongLength (eqb (length p) (prefixLength k)) k (prefixLength k) p (readFields k false p)
+readShort k p = whenLength (eqb (length p) (prefixLength k)) k (prefixLength k) p (readFields k false p)
 
 -- a run of any length that unpacks: calibration
 abbrev pub isAny : Run → Bool
@@ -53,7 +54,7 @@ isAny y.any = true
 abbrev pub whenRun : {A : Type 0} → Command → ℕ → List ℕ → Outcome A → Outcome A
 whenRun k v p next =
     pick (isAny (payloadOf k .run)) (unless (not (eqb ((length p - prefixLength k) % 8) 1)) 13 ((length p - prefixLength k) ∷ []) next)
-    (wrongLength (accepted (rawLengthFor k v) (length p - prefixLength k) || (optional k && numberedBy (length p))) k (prefixLength k + packedLength (rawLengthFor k v)) p next)
+    (whenLength (accepted (rawLengthFor k v) (length p - prefixLength k) || (optional k && numberedBy (length p))) k (prefixLength k + packedLength (rawLengthFor k v)) p next)
 
 -- "version (8)": the first byte of a dump's payload is 6 or 7
 abbrev pub versionIn : List ℕ → Bool
@@ -62,11 +63,12 @@ versionIn p = eqb (getD p 0 0) 6 || eqb (getD p 0 0) 7
 -- behind the version v: "further prefix missing (7), run length (7; calibration 13), then b, p or pattern"
 unfoldable pub readRun : Command → ℕ → List ℕ → Outcome Fields
 readRun k v p =
-    wrongLength (leb (prefixLength k) (length p)) k (prefixLength k) p (whenRun k v p (readFields k (numberedBy (length p)) p))
+    whenLength (leb (prefixLength k) (length p)) k (prefixLength k) p (whenRun k v p (readFields k (numberedBy (length p)) p))
 
 -- "A dump: version missing (7), version (8)", then the rest
 abbrev pub readDump : Command → List ℕ → Outcome Fields
-readDump k p = wrongLength (leb (early k) (length p)) k (prefixLength k) p (fieldOk y.version (getD p 0 0) (readRun k (getD p 0 0) p))
+readDump k p = whenLength (leb (early k) (length p)) k (prefixLength k) p (fieldOk y.version (getD p 0 0) (readRun k (getD p 0 0) p))
 
+-- "then payload": a dump where the command carries a run, else a short one
 abbrev pub readPayload : Command → List ℕ → Outcome Fields
 readPayload k p = pick (carriesRun k) (readDump k p) (readShort k p)
