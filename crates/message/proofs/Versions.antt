@@ -1,8 +1,7 @@
 -- A message carries a version exactly if it carries a run: case by case.
 use mathlib.Core.Path.{_≡_, refl}
 use mathlib.Core.Bool.{true, false}
-use Prim.Native.Nat.{ℕ}
-use native.Mathlib.Omega.{arith}
+use Rattle.laws.specs.Choice.{pick}
 use Rattle.payload.specs.Wire.{carriesRun}
 use Rattle.message.specs.declared.head.MaybePattern.the-variants as p
 use Rattle.message.specs.declared.head.MaybeVersion.the-variants as v
