@@ -1,13 +1,17 @@
 -- A mask that is put together byte by byte masks byte by byte, so what is left of a word are its bytes' top bits; where none is left
 -- the eight bytes are data bytes.
 use mathlib.Core.Path.{_≡_, refl, ap, ap₂, sym, _∙_}
+use mathlib.Core.Bool.{true, false}
 use mathlib.Core.List.{List}
 use Prim.Native.Nat.{ℕ, _+_, _*_, _/_, _%_, _^_, _≤_, _<_}
 use native.Mathlib.Omega.{arith}
-use lib.Bits.{bitAnd, and-block, and-high, and-zero-l}
+use lib.Bits.{bitAnd, bitOr, and-block, and-high, and-zero-l, and-le-l, and-le-r, or-add-and, or-lt}
+use lib.Dec.{ltb, leb}
+use borrow.Author.Tests.{lt-ltb, le-ltb, le-leb, lt-leb, ltb-true, ltb-false, leb-true, leb-false}
+use Rattle.laws.proofs.Tests.{split}
 use lib.ListN.{getD, length}
 use Rattle.data_bytes.specs.Data.{word, topBits, topBitsAt, dataRun}
-use Rattle.data_bytes.proofs.Runs.{run-more}
+use Rattle.data_bytes.proofs.Runs.{run-more, run-ends}
 
 top-of : (r : ℕ) → r < 256 → r / 128 % 2 * 128 ≡ r / 128 * 128
 top-of r byte = omega arith
@@ -62,3 +66,30 @@ word-more l i h room clear =
   where
     more : (j m : ℕ) → m ≡ j + 1 → j < length l → getD l j 0 < 0x80 → j ≤ dataRun l → m ≤ dataRun l
     more j m e within low seen = omega (arith, e, run-more l j seen within low)
+
+-- of two numbers joined bit by bit each is at most as much
+or-left : (a b : ℕ) → a ≤ bitOr a b
+or-left a b = omega (arith, or-add-and a b, and-le-r a b)
+
+or-right : (a b : ℕ) → b ≤ bitOr a b
+or-right a b = omega (arith, or-add-and a b, and-le-l a b)
+
+-- bytes joined bit by bit have a top bit where one of them has: the run goes as far as there is none
+pub seen-more : (l : List ℕ) (i all : ℕ) → i < length l → ltb all 0x80 ≡ leb i (dataRun l)
+    → ltb (bitOr all (getD l i 0)) 0x80 ≡ leb (i + 1) (dataRun l)
+seen-more l i all h e = split (ltb all 0x80) low high
+  where
+    b : ℕ
+    b = getD l i 0
+
+    low : ltb all 0x80 ≡ true → ltb (bitOr all b) 0x80 ≡ leb (i + 1) (dataRun l)
+    low t =
+        let seen : i ≤ dataRun l = leb-true i (dataRun l) (sym e ∙ t) in
+        split (ltb b 0x80)
+        (λ s. lt-ltb (bitOr all b) 0x80 (or-lt 7 all b (ltb-true all 0x80 t) (ltb-true b 0x80 s)) ∙ sym (le-leb (i + 1) (dataRun l) (run-more l i seen h (ltb-true b 0x80 s))))
+        (λ s. le-ltb (bitOr all b) 0x80 (omega (arith, or-right all b, ltb-false b 0x80 s)) ∙ sym (lt-leb (i + 1) (dataRun l) (omega (arith, run-ends l i seen (ltb-false b 0x80 s)))))
+
+    high : ltb all 0x80 ≡ false → ltb (bitOr all b) 0x80 ≡ leb (i + 1) (dataRun l)
+    high t =
+        le-ltb (bitOr all b) 0x80 (omega (arith, or-left all b, ltb-false all 0x80 t))
+        ∙ sym (lt-leb (i + 1) (dataRun l) (omega (arith, leb-false i (dataRun l) (sym e ∙ t))))

@@ -1,14 +1,19 @@
 -- How far data bytes go.
+use mathlib.Core.Bool.{Bool}
 use mathlib.Core.List.{List, [], _∷_}
 use Prim.Native.Nat.{ℕ, suc, _+_, _*_, _/_}
-use lib.Dec.{ltb}
-use lib.ListN.{getD}
+use lib.Dec.{ltb, leb}
+use lib.ListN.{length, getD}
 use Rattle.laws.specs.Choice.{pick}
 
 -- how many data bytes (00 to 7F) stand ahead of the first other byte
 unfoldable pub dataRun : List ℕ → ℕ
 dataRun [] = 0
 dataRun (b ∷ bs) = pick (ltb b 0x80) (suc (dataRun bs)) 0
+
+-- the run goes to the end
+abbrev pub allData : List ℕ → Bool
+allData l = leb (length l) (dataRun l)
 
 -- eight bytes as one number, the first lowest
 abbrev pub word : ℕ → ℕ → ℕ → ℕ → ℕ → ℕ → ℕ → ℕ → ℕ

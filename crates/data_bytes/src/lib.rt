@@ -3,7 +3,7 @@ ghost use mathlib.Core.Path.{_≡_};
 ghost use mathlib.Core.List.{_++_};
 ghost use Prim.Native.Nat.{_+_, _*_, _/_, _≤_};
 ghost use lib.ListN.{length, take, drop};
-ghost use Rattle.data_bytes.specs.Data.{dataRun, word, topBits, topBitsAt};
+ghost use Rattle.data_bytes.specs.Data.{dataRun, allData, word, topBits, topBitsAt};
 
 // Bytes in a word, and the top bits of all eight.
 const WORD: usize = 8;
@@ -76,6 +76,19 @@ pub fn data_run(bytes: &[u8]) -> usize
         i += 1;
     }
     i
+}
+
+// Is every byte a data byte? It looks at all of them at once, many a turn; data_run stops at the first other byte.
+pub fn all_data(bytes: &[u8]) -> bool
+    ensures { λ r. ⌜ r ≡ allData (now (bytes .entry)) ⌝ }
+{
+    let mut all: u8 = 0;
+    let mut i: usize = 0;
+    while i < bytes.len() {
+        all = all | bytes[i];
+        i += 1;
+    }
+    all < 0x80
 }
 
 // Copies the whole words: eight bytes are read ahead of the first store, so that they are one load and one store.

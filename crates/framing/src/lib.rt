@@ -9,6 +9,9 @@ pub const SYSEX_START: u8 = 0xF0;
 
 pub const SYSEX_END: u8 = 0xF7;
 
+// From here on looking at all bytes at once is the faster way to find no high one.
+const LONG: usize = 32;
+
 // A byte, or none.
 pub enum MaybeByte {
     Some(u8),
@@ -33,6 +36,11 @@ pub fn is_framed(bytes: &[u8]) -> bool
 pub fn first_high(bytes: &[u8]) -> MaybeByte
     ensures { λ r. ⌜ r ≡ firstHigh (now (bytes .entry)) ⌝ }
 {
+    if LONG <= bytes.len() {
+        if data_bytes::all_data(bytes) {
+            return MaybeByte::None;
+        }
+    }
     let run = data_bytes::data_run(bytes);
     if run < bytes.len() {
         let byte = bytes[run];
