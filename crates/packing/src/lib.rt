@@ -33,8 +33,8 @@ fn with_top_bit(high: u8, byte: u8, i: usize) -> u8
     high | ((byte >> 7) << i)
 }
 
-// One group: eight bytes at a place of out from the raw bytes at from.
-fn pack_group(raw: &[u8], from: usize, out: &mut [u8], at: usize)
+// A group that the raw bytes may end in: eight bytes at a place of out from the raw bytes at from, and 0 behind the last.
+fn pack_last(raw: &[u8], from: usize, out: &mut [u8], at: usize)
     requires { ⌜ (from < length (now raw)) × (at + 8 ≤ length (now out)) ⌝ }
     ensures { λ _. ⌜ now (out .exit) ≡ window (now (out .entry)) at (tab (groupByte (now (raw .entry)) from) 8) ⌝ }
 {
@@ -49,15 +49,43 @@ fn pack_group(raw: &[u8], from: usize, out: &mut [u8], at: usize)
     out[at] = high;
 }
 
-// Packs the started groups of raw to the front of out, which has the room.
+// A whole group: the same, with no end of the raw bytes to look for.
+fn pack_group(raw: &[u8], from: usize, out: &mut [u8], at: usize)
+    requires { ⌜ (from + 7 ≤ length (now raw)) × (at + 8 ≤ length (now out)) ⌝ }
+    ensures { λ _. ⌜ now (out .exit) ≡ window (now (out .entry)) at (tab (groupByte (now (raw .entry)) from) 8) ⌝ }
+{
+    let mut high: u8 = 0;
+    let mut i: usize = 0;
+    while i < RAW_GROUP {
+        let whole = raw[from + i];
+        high = with_top_bit(high, whole, i);
+        out[at + 1 + i] = low_seven(whole);
+        i += 1;
+    }
+    out[at] = high;
+}
+
+// Packs the whole groups of raw to the front of out, which has the room.
 fn pack_groups(raw: &[u8], groups: usize, out: &mut [u8])
-    requires { ⌜ (groups ≡ (length (now raw) + 6) / 7) × (8 * groups ≤ length (now out)) ⌝ }
+    requires { ⌜ (7 * groups ≤ length (now raw)) × (8 * groups ≤ length (now out)) ⌝ }
     ensures { λ _. ⌜ now (out .exit) ≡ window (now (out .entry)) 0 (tab (packedByte (now (raw .entry))) (8 * groups)) ⌝ }
 {
     let mut g: usize = 0;
     while g < groups {
         pack_group(raw, RAW_GROUP * g, out, PACKED_GROUP * g);
         g += 1;
+    }
+}
+
+// Packs the started groups of raw to the front of out, which has the room.
+fn pack_all(raw: &[u8], groups: usize, out: &mut [u8])
+    requires { ⌜ (groups ≡ (length (now raw) + 6) / 7) × (8 * groups ≤ length (now out)) ⌝ }
+    ensures { λ _. ⌜ now (out .exit) ≡ window (now (out .entry)) 0 (tab (packedByte (now (raw .entry))) (8 * groups)) ⌝ }
+{
+    let whole = raw.len() / RAW_GROUP;
+    pack_groups(raw, whole, out);
+    if whole < groups {
+        pack_last(raw, RAW_GROUP * whole, out, PACKED_GROUP * whole);
     }
 }
 
@@ -72,7 +100,7 @@ pub fn pack_into(raw: &[u8], out: &mut [u8]) -> Count
             if available < needed {
                 return Count::Err(Refusal::BufferTooSmall { needed, available });
             }
-            pack_groups(raw, needed / PACKED_GROUP, out);
+            pack_all(raw, needed / PACKED_GROUP, out);
             Count::Ok(needed)
         }
     }

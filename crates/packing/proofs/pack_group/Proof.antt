@@ -1,9 +1,10 @@
--- `pack_group` meets its contract: after i turns i raw bytes are in place and their top bits gathered; the top bits are stored last.
+-- `pack_group` meets its contract as `pack_last` does: after i turns i raw bytes are in place and their top bits gathered.
 use Rattle.packed.proofs.Groups.{Packing, packing-none, packing-more, packing-done}
 use borrow.Author.Needs.{needs}
 use lib.ListN.{length-set}
 use native.Mathlib.Omega.{arith}
-use Prim.Native.Nat.{_-_}
+use Prim.Native.Nat.{_+_, _-_}
+use mathlib.Core.Path.{refl}
 use Rattle.packing.proofs.pack_group.Statement.{statement}
 use Rattle.packing.proofs.pack_group.Tie as tie
 
@@ -16,11 +17,11 @@ abbrev μ-loop : tie.MeasureT-loop
 loop-holds : tie.Need-loop-holds Inv-loop μ-loop
 loop-holds c = packing-none (c .before .before .args .raw .now) (c .before .before .args .from) (c .before .before .args .out .now) (c .before .before .args .at)
 
-add-byte-at : tie.Need-add-byte-at Inv-loop μ-loop
-add-byte-at c = omega arith
+add-whole : tie.Need-add-whole Inv-loop μ-loop
+add-whole c = omega arith
 
-byte-at-requires : tie.Need-byte-at-requires Inv-loop μ-loop
-byte-at-requires c κs = search needs
+shared-slice-read-whole : tie.Need-shared-slice-read-whole Inv-loop μ-loop
+shared-slice-read-whole c = omega arith
 
 with-top-bit-requires : tie.Need-with-top-bit-requires Inv-loop μ-loop
 with-top-bit-requires c κs = (c .before .loop-test .taken, c .before .before .loop .inv .small)
@@ -46,11 +47,10 @@ loop-less c = omega arith
 loop-again : tie.Need-loop-again Inv-loop μ-loop
 loop-again c = let a = c .before .before .before .before .before .before .before .args in
     let l = c .before .before .before .before .loop in
-    let b = c .before .before .byte-at in
-    packing-more (a .raw .now) (a .from) (a .out .now) (a .at) (l .out) (l .high) (l .i) (b .result)
+    packing-more (a .raw .now) (a .from) (a .out .now) (a .at) (l .out) (l .high) (l .i) _
     (c .low-seven .result) (c .before .with-top-bit .result) (l .inv)
     (c .before .before .before .before .before .before .before .pre .1) (c .before .before .before .loop-test .taken)
-    (b .ensures) (omega (arith, b .ok)) (c .low-seven .ensures) (c .before .with-top-bit .ensures)
+    refl (omega (arith, c .before .before .shared-slice-known2 .given (a .from + l .i))) (c .low-seven .ensures) (c .before .with-top-bit .ensures)
 
 slice-write-out-2 : tie.Need-slice-write-out-2 Inv-loop μ-loop
 slice-write-out-2 c = omega (arith, c .before .loop .inv .same)
@@ -70,8 +70,8 @@ pack-group-spec =
     Inv-loop
     μ-loop
     loop-holds
-    add-byte-at
-    byte-at-requires
+    add-whole
+    shared-slice-read-whole
     with-top-bit-requires
     low-seven-requires
     add-out

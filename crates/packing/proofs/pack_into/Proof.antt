@@ -32,8 +32,8 @@ returns c = let a = c .before .before .before .before .before .before .before .a
     counted-first _ _ n _ _ _ e
     (no-room (packed (a .raw .now)) (a .out .now) n (length-tab (packedByte (a .raw .now)) (packedLength size) ∙ sym (packed-given size n e)) (c .if1 .taken))
 
-pack-groups-requires : tie.Need-pack-groups-requires
-pack-groups-requires c κs = let n = c .before .before .before .needed .given .0 .0 in
+pack-all-requires : tie.Need-pack-all-requires
+pack-all-requires c κs = let n = c .before .before .before .needed .given .0 .0 in
     let size = length (c .before .before .before .before .before .before .before .before .args .raw .now) in
     let e : gives n ≡ packedLengthOf size =
     ap counted (sym (c .before .before .before .needed .given .1)) ∙ c .before .before .before .before .before .packed-len .ensures in
@@ -54,7 +54,7 @@ returns-3 c = let a = c .before .before .before .before .before .before .before 
     ap counted (sym (k .1)) ∙ c .before .before .before .before .before .before .before .before .packed-len .ensures in
     let l : n ≡ packedLength size = packed-given size n e in
     let groups : 8 * (n / 8) ≡ n = omega (arith, l) in
-    let p = c .before .before .pack-groups in
+    let p = c .before .before .pack-all in
     counted-first _ _ n _ (a .out .now) _ e
     (filled-in (packedByte (a .raw .now)) (packedLength size) n (a .out .now) (p .last .1 .1 .0) l (c .before .before .before .before .if1 .left)
     (p .ensures ∙ ap (λ (m : ℕ). window (a .out .now) 0 (tab (packedByte (a .raw .now)) m)) groups))
@@ -67,7 +67,7 @@ pack-into-spec =
     enum-known-e
     enum-known-needed
     returns
-    pack-groups-requires
+    pack-all-requires
     returns-2
     same-length
     returns-3)
