@@ -1,12 +1,14 @@
 -- The writer's last two answers: 2 for a high byte with the buffer untouched, or the whole row at the front.
-use mathlib.Core.Path.{_≡_, ap, sym, subst, _∙_}
-use mathlib.Core.Bool.{true, false}
+use mathlib.Core.Path.{_≡_, refl, ap, sym, subst, _∙_}
+use mathlib.Core.Bool.{Bool, true, false}
 use mathlib.Core.List.{List, [], _∷_, _++_}
 use Prim.Native.Nat.{ℕ, _+_, _^_, _≤_, _<_}
 use native.Mathlib.Omega.{arith}
 use lib.Dec.{ltb, leb}
-use lib.ListN.{length, drop, length-append}
+use lib.ListN.{length, take, drop, length-append}
+use lib.Seq.{take-length}
 use borrow.Author.Tests.{le-leb, lt-leb}
+use Rattle.laws.specs.Choice.{pick}
 use Rattle.refusal.specs.declared.Refusal.the-variants as r
 use Rattle.refusal.specs.declared.Count.{Count}
 use Rattle.refusal.specs.declared.Count.the-variants as c
@@ -43,19 +45,27 @@ seven-written d k prefix run out later n e f l =
     }
 
 -- the length that was given
-pub needed-none : (k : Command) (prefix run n : ℕ) → carriesRun k ≡ false → gives n ≡ lengthFor k prefix run → n ≡ 8 + prefix
-needed-none k prefix run n none e =
-    let g : gives n ≡ unless (ltb (8 + prefix + 0) (2 ^ 64)) 22 [] (gives (8 + prefix + 0)) = rw none at e in
-    let given : gives (8 + prefix + 0) ≡ gives n = passed-on (ltb (8 + prefix + 0) (2 ^ 64)) 22 [] (gives (8 + prefix + 0)) n (sym g) in
-    let same : 8 + prefix + 0 ≡ n = cc in
-    omega arith
+pub needed-own : (k : Command) (prefix run n : ℕ) → gives n ≡ lengthFor k prefix run → n ≡ 8 + prefix + pick (carriesRun k) run 0
+needed-own k prefix run n e =
+    let own : ℕ = pick (carriesRun k) run 0 in
+    let given : gives (8 + prefix + own) ≡ gives n = passed-on (ltb (8 + prefix + own) (2 ^ 64)) 22 [] (gives (8 + prefix + own)) n (sym e) in
+    let same : 8 + prefix + own ≡ n = cc in
+    sym same
 
-pub needed-run : (k : Command) (prefix run n : ℕ) → carriesRun k ≡ true → gives n ≡ lengthFor k prefix run → n ≡ 8 + prefix + run
-needed-run k prefix run n there e =
-    let g : gives n ≡ unless (ltb (8 + prefix + run) (2 ^ 64)) 22 [] (gives (8 + prefix + run)) = rw there at e in
-    let given : gives (8 + prefix + run) ≡ gives n = passed-on (ltb (8 + prefix + run) (2 ^ 64)) 22 [] (gives (8 + prefix + run)) n (sym g) in
-    let same : 8 + prefix + run ≡ n = cc in
-    omega arith
+-- the front of the run that is written: all of it, or none
+pub own-within : (k : Command) (run : List ℕ) (n : ℕ) → n ≡ pick (carriesRun k) (length run) 0 → n ≤ length run
+own-within k run n e = omega (arith, e, at-most (carriesRun k))
+  where
+    at-most : (t : Bool) → pick t (length run) 0 ≤ length run
+    at-most true = omega arith
+    at-most false = omega arith
+
+pub own-front : (k : Command) (run : List ℕ) (n : ℕ) → n ≡ pick (carriesRun k) (length run) 0 → take n run ≡ ownRun k run
+own-front k run n e = ap (λ (m : ℕ). take m run) e ∙ front (carriesRun k)
+  where
+    front : (t : Bool) → take (pick t (length run) 0) run ≡ pick t run []
+    front true = take-length run
+    front false = refl
 
 -- fields tested and length given: 14, or what follows
 module _ (d : DeviceId) (k : Command) (f own : Fields) (run out : List ℕ) (n len : ℕ) (tested : gives own ≡ checkedFields k f)

@@ -4,6 +4,8 @@ ghost use mathlib.Core.Bool.{true};
 ghost use mathlib.Core.List.{_++_};
 ghost use Prim.Native.Nat.{_+_, _≤_};
 ghost use lib.ListN.{length, take, drop};
+ghost use Rattle.laws.specs.Choice.{pick};
+ghost use Rattle.payload.specs.Wire.{carriesRun};
 ghost use Rattle.refusal.specs.Outcome.{Writes, counted};
 ghost use Rattle.frame_writer.specs.Writer.{lengthFor, headLength, header, row, frameWrite, recordWrite, fieldsWrite, sevenBitWrite};
 use command::Command;
@@ -21,6 +23,16 @@ use refusal::Refusal;
 pub const HEADER_LEN: usize = 7;
 
 pub const OVERHEAD_LEN: usize = 8;
+
+// How many bytes of a run are written: none where the command has no run.
+fn own_len(command: Command, run_len: usize) -> usize
+    ensures { λ r. ⌜ r ≡ pick (carriesRun command) «run_len» 0 ⌝ }
+{
+    if !payload::carries_run(command) {
+        return 0;
+    }
+    run_len
+}
 
 // The length of a frame with so many bytes ahead of a run of so many; 22 where that is more than a usize holds.
 fn frame_len(command: Command, prefix_len: usize, run_len: usize) -> Count
@@ -119,10 +131,8 @@ fn write_fields(
                         return Count::Err(Refusal::BufferTooSmall { needed, available });
                     }
                     let bytes = prefix.bytes;
-                    if !payload::carries_run(command) {
-                        return put_seven_bit(device, command, &bytes[..len], &run[..0], out);
-                    }
-                    put_seven_bit(device, command, &bytes[..len], run, out)
+                    let count = own_len(command, run.len());
+                    put_seven_bit(device, command, &bytes[..len], &run[..count], out)
                 }
             }
         }

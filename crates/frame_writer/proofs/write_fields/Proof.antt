@@ -1,15 +1,14 @@
 -- `write_fields` meets its contract: fields, length, room, each by its own test, then the row.
-use Rattle.frame_writer.proofs.Answers.{needed-none, needed-run, fields-no-room, fields-written}
+use Rattle.frame_writer.proofs.Answers.{needed-own, own-within, own-front, fields-no-room, fields-written}
 use Rattle.frame_writer.specs.Writer.{lengthFor}
 use Rattle.payload.proofs.ByKind.{prefix-small, padded-length, padded-front}
-use Rattle.payload.specs.Wire.{carriesRun, prefixOf, fieldsTold, checkedFields}
+use Rattle.payload.specs.Wire.{prefixOf, fieldsTold, checkedFields}
 use Rattle.refusal.proofs.Written.{counted-first, refused-first}
 use Rattle.refusal.specs.Outcome.{counted}
-use borrow.Author.Tests.{not-true, not-false}
 use lib.ListN.{length}
+use lib.Seq.{length-take-le}
 use native.Mathlib.Omega.{arith}
 use Prim.Native.Nat.{ℕ}
-use mathlib.Core.Bool.{true, false}
 use mathlib.Core.Path.{_≡_, ap, sym, _∙_}
 use borrow.Author.Needs.{needs}
 use Rattle.frame_writer.proofs.write_fields.Statement.{statement}
@@ -44,89 +43,59 @@ returns c = let v = c .before .before .before .before .before .before .before .b
     let n = c .before .before .needed .given in
     fields-no-room (a .device) (a .command) (a .fields) (o .0 .0) (a .run .now) (a .out .now) (n .0 .0) _ (ap fieldsTold (sym (o .1)) ∙ v .check .ensures) (c .before .before .before .before .before .prefix-of .ensures .long) (ap counted (sym (n .1)) ∙ c .before .before .before .before .frame-len .ensures) (c .if1 .taken)
 
-carries-run-requires : tie.Need-carries-run-requires
-carries-run-requires c κs = search needs
+own-len-requires : tie.Need-own-len-requires
+own-len-requires c κs = search needs
 
 array-share-prefix-bytes : tie.Need-array-share-prefix-bytes
-array-share-prefix-bytes c = let p = c .before .before .before .before .before .before .before .before in
+array-share-prefix-bytes c = let p = c .before .before .before .before .before .before .before in
     let a = p .before .before .before .before .before .before .args in
     omega (arith, p .prefix-of .ensures .long, prefix-small (a .command) (a .fields), padded-length (prefixOf (a .command) (a .fields)) (p .prefix-of .result .bytes) (p .prefix-of .result .len) (prefix-small (a .command) (a .fields)) (p .prefix-of .ensures))
 
 slice-aggregate-put-seven-bit : tie.Need-slice-aggregate-put-seven-bit
-slice-aggregate-put-seven-bit c = let p = c .before .before .before .before .before .before .before .before .before in
+slice-aggregate-put-seven-bit c = let p = c .before .before .before .before .before .before .before .before in
     let a = p .before .before .before .before .before .before .args in
     p .prefix-of .ensures .long ∙ ap length (sym (padded-front (prefixOf (a .command) (a .fields)) (p .prefix-of .result .bytes) (p .prefix-of .result .len) (p .prefix-of .ensures)))
 
 slice-aggregate-put-seven-bit-2 : tie.Need-slice-aggregate-put-seven-bit-2
-slice-aggregate-put-seven-bit-2 c = search needs
+slice-aggregate-put-seven-bit-2 c = let a = c .before .before .before .before .before .before .before .before .before .before .before .before .before .before .before .args in
+    let n = c .before .before .own-len in
+    sym (length-take-le (n .result) (a .run .now) (own-within (a .command) (a .run .now) (n .result) (n .ensures)))
 
 put-seven-bit-requires : tie.Need-put-seven-bit-requires
-put-seven-bit-requires c κs = let w = c .before .before .before .before .before .before .before .before in
+put-seven-bit-requires c κs = let w = c .before .before .before .before .before .before .before in
     let p = w .before .before .before .prefix-of in
     let a = w .before .before .before .before .before .before .before .before .before .args in
     let n = w .needed .given in
-    let none : carriesRun (a .command) ≡ false = sym (c .before .before .before .before .carries-run .ensures) ∙ not-true _ (c .before .before .before .if2 .taken) in
-    let need = needed-none (a .command) (p .result .len) (length (a .run .now)) (n .0 .0) none (ap counted (sym (n .1)) ∙ w .before .before .frame-len .ensures) in
+    let o = c .before .before .before .own-len in
+    let need = needed-own (a .command) (p .result .len) (length (a .run .now)) (n .0 .0) (ap counted (sym (n .1)) ∙ w .before .before .frame-len .ensures) in
     let front = ap length (padded-front (prefixOf (a .command) (a .fields)) (p .result .bytes) (p .result .len) (p .ensures)) in
-    omega (arith, need, front, p .ensures .long, c .before .before .before .before .before .before .if1 .left)
-
-same-length : tie.Need-same-length
-same-length c = search needs
+    let run = length-take-le (o .result) (a .run .now) (own-within (a .command) (a .run .now) (o .result) (o .ensures)) in
+    omega (arith, need, front, run, o .ensures, p .ensures .long, c .before .before .before .before .before .if1 .left)
 
 returns-2 : tie.Need-returns-2
-returns-2 c = let w = c .before .before .before .before .before .before .before .before .before .before .before in
-    let p = w .before .before .before .prefix-of in
-    let v = w .before .before .before .before .before .before in
-    let a = v .before .before .before .args in
-    let o = w .before .before .before .before .enum-told .given in
-    let n = w .needed .given in
-    let none : carriesRun (a .command) ≡ false = sym (c .before .before .before .before .before .before .before .carries-run .ensures) ∙ not-true _ (c .before .before .before .before .before .before .if2 .taken) in
-    fields-written (a .device) (a .command) (a .fields) (o .0 .0) (a .run .now) (a .out .now) (n .0 .0) _ (ap fieldsTold (sym (o .1)) ∙ v .check .ensures) (p .ensures .long) (ap counted (sym (n .1)) ∙ w .before .before .frame-len .ensures)
-    _ _ _ _ (c .before .before .before .before .before .before .before .before .before .if1 .left) (padded-front (prefixOf (a .command) (a .fields)) (p .result .bytes) (p .result .len) (p .ensures)) (rw none) (c .before .before .put-seven-bit .ensures)
-
-array-share-prefix-bytes-2 : tie.Need-array-share-prefix-bytes-2
-array-share-prefix-bytes-2 c = let p = c .before .before .before .before .before .before .before .before in
-    let a = p .before .before .before .before .before .before .args in
-    omega (arith, p .prefix-of .ensures .long, prefix-small (a .command) (a .fields), padded-length (prefixOf (a .command) (a .fields)) (p .prefix-of .result .bytes) (p .prefix-of .result .len) (prefix-small (a .command) (a .fields)) (p .prefix-of .ensures))
-
-slice-aggregate-put-seven-bit-3 : tie.Need-slice-aggregate-put-seven-bit-3
-slice-aggregate-put-seven-bit-3 c = let p = c .before .before .before .before .before .before .before .before .before in
-    let a = p .before .before .before .before .before .before .args in
-    p .prefix-of .ensures .long ∙ ap length (sym (padded-front (prefixOf (a .command) (a .fields)) (p .prefix-of .result .bytes) (p .prefix-of .result .len) (p .prefix-of .ensures)))
-
-put-seven-bit-requires-2 : tie.Need-put-seven-bit-requires-2
-put-seven-bit-requires-2 c κs = let w = c .before .before .before .before .before .before .before in
-    let p = w .before .before .before .prefix-of in
-    let a = w .before .before .before .before .before .before .before .before .before .args in
-    let n = w .needed .given in
-    let there : carriesRun (a .command) ≡ true = sym (c .before .before .before .carries-run .ensures) ∙ not-false _ (c .before .before .if2 .left) in
-    let need = needed-run (a .command) (p .result .len) (length (a .run .now)) (n .0 .0) there (ap counted (sym (n .1)) ∙ w .before .before .frame-len .ensures) in
-    let front = ap length (padded-front (prefixOf (a .command) (a .fields)) (p .result .bytes) (p .result .len) (p .ensures)) in
-    omega (arith, need, front, p .ensures .long, c .before .before .before .before .before .if1 .left)
+returns-2 c = refused-first _ _ (c .before .e .given .0 .0) _ (ap fieldsTold (sym (c .before .e .given .1)) ∙ c .before .before .before .check .ensures)
 
 returns-3 : tie.Need-returns-3
-returns-3 c = refused-first _ _ (c .before .e .given .0 .0) _ (ap fieldsTold (sym (c .before .e .given .1)) ∙ c .before .before .before .check .ensures)
-
-returns-4 : tie.Need-returns-4
-returns-4 c = let v = c .before .before .before .before .before .before .before in
+returns-3 c = let v = c .before .before .before .before .before .before .before in
     let a = v .before .before .before .args in
     let o = c .before .before .before .before .before .enum-told .given in
     counted-first (checkedFields (a .command) (a .fields)) _ (o .0 .0) _ _ _ (ap fieldsTold (sym (o .1)) ∙ v .check .ensures)
     (refused-first _ _ (c .before .e2 .given .0 .0) _ (ap counted (sym (c .before .e2 .given .1)) ∙ c .before .before .before .frame-len .ensures ∙ ap (λ (l : ℕ). lengthFor (a .command) l (length (a .run .now))) (c .before .before .before .before .prefix-of .ensures .long)))
 
-same-length-2 : tie.Need-same-length-2
-same-length-2 c = search needs
+same-length : tie.Need-same-length
+same-length c = search needs
 
-returns-5 : tie.Need-returns-5
-returns-5 c = let w = c .before .before .before .before .before .before .before .before .before .before in
+returns-4 : tie.Need-returns-4
+returns-4 c = let w = c .before .before .before .before .before .before .before .before .before .before in
     let p = w .before .before .before .prefix-of in
     let v = w .before .before .before .before .before .before in
     let a = v .before .before .before .args in
     let o = w .before .before .before .before .enum-told .given in
     let n = w .needed .given in
-    let there : carriesRun (a .command) ≡ true = sym (c .before .before .before .before .before .before .carries-run .ensures) ∙ not-false _ (c .before .before .before .before .before .if2 .left) in
+    let own = c .before .before .before .before .before .before .own-len in
     fields-written (a .device) (a .command) (a .fields) (o .0 .0) (a .run .now) (a .out .now) (n .0 .0) _ (ap fieldsTold (sym (o .1)) ∙ v .check .ensures) (p .ensures .long) (ap counted (sym (n .1)) ∙ w .before .before .frame-len .ensures)
-    _ _ _ _ (c .before .before .before .before .before .before .before .before .if1 .left) (padded-front (prefixOf (a .command) (a .fields)) (p .result .bytes) (p .result .len) (p .ensures)) (rw there) (c .before .before .put-seven-bit2 .ensures)
+    _ _ _ _ (c .before .before .before .before .before .before .before .before .if1 .left) (padded-front (prefixOf (a .command) (a .fields)) (p .result .bytes) (p .result .len) (p .ensures))
+    (own-front (a .command) (a .run .now) (own .result) (own .ensures)) (c .before .before .put-seven-bit .ensures)
 
 pub write-fields-spec : {M : Type 1} → statement M
 write-fields-spec =
@@ -140,17 +109,12 @@ write-fields-spec =
     enum-known-e-2
     enum-known-needed
     returns
-    carries-run-requires
+    own-len-requires
     array-share-prefix-bytes
     slice-aggregate-put-seven-bit
     slice-aggregate-put-seven-bit-2
     put-seven-bit-requires
-    same-length
     returns-2
-    array-share-prefix-bytes-2
-    slice-aggregate-put-seven-bit-3
-    put-seven-bit-requires-2
     returns-3
-    returns-4
-    same-length-2
-    returns-5)
+    same-length
+    returns-4)
