@@ -181,7 +181,8 @@ impl Decoder {
         FeedAnswer::Ok(self.walk(store, bytes))
     }
 
-    fn is_sound(self) -> bool
+    // Document 01's "sound": what a call takes.
+    pub fn is_sound(self) -> bool
         ensures { λ r. ⌜ r ≡ sound self ⌝ }
     {
         let status = self.status;

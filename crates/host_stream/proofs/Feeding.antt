@@ -1,8 +1,8 @@
 -- A call of `dm_feed` does to the bytes what the decoder's call does to the state that they say.
-use mathlib.Core.Path.{_≡_, refl, ap, sym, _∙_}
+use mathlib.Core.Path.{_≡_, refl, ap, sym, subst, _∙_}
 use mathlib.Core.Bool.{true, false}
 use mathlib.Core.List.{List, [], _++_, append-nil}
-use Prim.Native.Nat.{ℕ, _≤_}
+use Prim.Native.Nat.{ℕ, _≤_, _<_}
 use native.Mathlib.Omega.{arith}
 use lib.ListN.{length, drop, drop-of-length-le}
 use borrow.Author.Tests.{eq-eqb, ne-eqb}
@@ -14,7 +14,10 @@ use Rattle.refusal.specs.Outcome.{Outcome, gives, refused, refusal}
 use Rattle.decoder.specs.declared.Fed.{Fed}
 use Rattle.decoder.specs.declared.FeedAnswer.{FeedAnswer}
 use Rattle.decoder.specs.declared.FeedAnswer.the-variants as a
+use Rattle.decoder.specs.State.{limit, sound}
 use Rattle.decoder.specs.Call.{Walked, call, answerOf as fedOf, answered, Feeds}
+use Rattle.decoder.proofs.Calling.{short-refused, unsound-refused, ready-walks}
+use Rattle.at_once.specs.AtOnce.{Answered, AtOnce}
 use Rattle.boundary.specs.declared.Answer.{Answer}
 use Rattle.boundary.specs.Answer.{answerOf, Sends}
 use Rattle.report_numbers.specs.declared.FedAnswer.{FedAnswer}
@@ -80,3 +83,25 @@ state-sent d bytes later a e l h =
 pub state-refused : (d : Decoder) (bytes : List ℕ) (a : Answer) → (length bytes ≡ 14 → ⊥) → a ≡ answerOf (refusal BadStore)
     → Sends (stateWrite d bytes) a bytes bytes
 state-refused d bytes a e h = record { answers = rw (ne-eqb (length bytes) 14 e) h; leaves = rw (ne-eqb (length bytes) 14 e) }
+
+-- a call that is refused with 20
+refused-fed : (state store bytes : List ℕ) (r : FedAnswer) → isState state ≡ true → call (stateOf state) store bytes ≡ refused 20 [] → r ≡ refusedFeed 20
+    → StreamFed (feedCall state store bytes) r state state store store
+refused-fed state store bytes r h c e = decides state store bytes r state store h (record { answers = rw c e; keeps = rw c; leaves = rw c })
+
+-- a store that is too short, and an unsound state
+pub short-fed : (state store bytes : List ℕ) (r : FedAnswer) → isState state ≡ true → length store < limit → r ≡ refusedFeed 20
+    → StreamFed (feedCall state store bytes) r state state store store
+short-fed state store bytes r h short e = refused-fed state store bytes r h (short-refused (stateOf state) store bytes short) e
+
+pub unsound-fed : (state store bytes : List ℕ) (r : FedAnswer) → isState state ≡ true → sound (stateOf state) ≡ false → r ≡ refusedFeed 20
+    → StreamFed (feedCall state store bytes) r state state store store
+unsound-fed state store bytes r h bad e = refused-fed state store bytes r h (unsound-refused (stateOf state) store bytes bad) e
+
+-- a call that is answered at once
+pub quick-fed : (state store bytes : List ℕ) (d : Decoder) (r : FedAnswer) (later : List ℕ) → isState state ≡ true → d ≡ stateOf state → limit ≤ length store
+    → sound d ≡ true → AtOnce d bytes r state later → 0 < r .used → StreamFed (feedCall state store bytes) r state later store store
+quick-fed state store bytes d r later h e room good a some =
+    let b = subst (λ (x : Decoder). Answered x store bytes r later) e (a .some some store) in
+    let c = ready-walks (stateOf state) store bytes room (subst (λ (x : Decoder). sound x ≡ true) e good) in
+    decides state store bytes r later store h (record { answers = rw c (b .told); keeps = rw c (b .kept); leaves = rw c (sym (b .left)) })

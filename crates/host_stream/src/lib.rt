@@ -79,6 +79,16 @@ pub extern "C" fn dm_feed(state: &mut [u8], store: &mut [u8], bytes: &[u8]) -> F
         return refused_feed(20);
     }
     let d = decoder_bytes::state_of(state);
+    if store.len() < decoder::MAX_SYSEX_LEN {
+        return refused_feed(20);
+    }
+    if !d.is_sound() {
+        return refused_feed(20);
+    }
+    let quick = at_once::answer(d, state, bytes);
+    if 0 < quick.used {
+        return quick;
+    }
     match d.feed(store, bytes) {
         FeedAnswer::Err(e) => refused_feed(e.number()),
         FeedAnswer::Ok(fed) => {

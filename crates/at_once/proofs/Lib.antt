@@ -1,0 +1,4 @@
+pub mod Numbers
+pub mod Whole
+pub mod Tests
+pub mod Answers
