@@ -17,7 +17,7 @@ ORIGINAL := the comparison with the original Rust (DEEPMIND_SRC names its source
 need = { .ci/need $(1); case $$? in 0) ;; 1) exit 0 ;; *) exit 1 ;; esac; }
 need_sources = $(call need,"$(ORIGINAL)" "$(SOURCES)/deepmind-midi")
 
-.PHONY: check test kit layout outside lib bench compare compare-all benchmark host test-rust test-host record recorded monitor test-monitor
+.PHONY: check test kit layout outside lib bench compare compare-all benchmark stack host test-rust test-host record recorded monitor test-monitor
 
 check: kit
 	@rt check
@@ -72,6 +72,10 @@ benchmark: lib
 	mkdir -p target/benchmark && objcopy --set-section-alignment '.text.*=64' $(LIBRARY) target/benchmark/$(notdir $(LIBRARY)) && \
 	ENGINE_LIB=$(abspath target/benchmark) RUSTFLAGS="-D warnings -C llvm-args=-align-all-functions=6" \
 	cargo build $(subst target/compare,target/benchmark,$(IN_COMPARE)) -p benchmark && target/benchmark/release/benchmark docs
+
+# How many bytes of stack each entry point takes at most.
+stack: lib
+	@$(call need,"the reading of the stack" objdump); examples/stack $(LIBRARY)
 
 # The C host, at target/host.
 host: lib
