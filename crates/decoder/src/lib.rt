@@ -1,14 +1,13 @@
 // The stream decoder: bytes in any pieces become whole MIDI messages.
 ghost use mathlib.Core.Path.{_≡_};
-ghost use mathlib.Core.Bool.{true};
-ghost use Prim.Native.Nat.{_+_, _≤_, _<_};
+ghost use Prim.Native.Nat.{_≤_, _<_};
 ghost use lib.ListN.{length};
 ghost use Rattle.decoder.specs.State.{limit, noStatus, waitsSoundly, sound, cleared, fresh, reset};
 ghost use Rattle.decoder.specs.Step.{step, stored, opened, holding, longer, waiting, completed, collect};
 ghost use Rattle.decoder.specs.Call.{walk, Walks, call, Feeds};
-ghost use Rattle.decoder.specs.Runs.{reach, quietRun, runState, runStore};
 
 mod byte;
+mod run;
 
 use channel_message::ChannelMessage;
 use real_time::Realtime;
@@ -96,7 +95,7 @@ pub enum FeedAnswer {
 }
 
 impl RunningStatus {
-    fn is_none(self) -> bool
+    pub fn is_none(self) -> bool
         ensures { λ r. ⌜ r ≡ noStatus self ⌝ }
     {
         match self {
@@ -365,56 +364,6 @@ impl Decoder {
         }
     }
 
-    // How many of so many bytes a run may take: in an open frame as many as it has room for, with no status in force all, else none.
-    fn reach(self, count: usize) -> usize
-        ensures { λ r. ⌜ r ≡ reach self count ⌝ }
-    {
-        let at = self.len;
-        let status = self.status;
-        if self.in_sysex {
-            if MAX_SYSEX_LEN <= at {
-                return 0;
-            }
-            let room = MAX_SYSEX_LEN - at;
-            if room < count {
-                return room;
-            }
-            return count;
-        }
-        if status.is_none() {
-            return count;
-        }
-        0
-    }
-
-    // How many data bytes at the front report nothing and wait for nothing.
-    fn quiet_run(self, bytes: &[u8]) -> usize
-        ensures { λ r. ⌜ r ≡ quietRun self (now (bytes .entry)) ⌝ }
-    {
-        let reach = self.reach(bytes.len());
-        data_bytes::data_run(&bytes[..reach])
-    }
-
-    // The state behind such a run, which an open frame takes into the store.
-    fn after_run(self, store: &mut [u8], run: &[u8]) -> Decoder
-        requires { ⌜ (limit ≤ length (now store)) × (self .in_sysex ≡ true → self .len + length (now run) ≤ limit) ⌝ }
-        ensures { λ r. ⌜ (r ≡ runState self (length (now (run .entry)))) × (now (store .exit) ≡ runStore self (now (store .entry)) (now (run .entry))) ⌝ }
-    {
-        let at = self.len;
-        if !self.in_sysex {
-            return self;
-        }
-        data_bytes::copy_into(run, &mut store[at..]);
-        Decoder {
-            in_sysex: true,
-            len: at + run.len(),
-            status: RunningStatus::None,
-            have: 0,
-            data0: self.data0,
-            data1: self.data1,
-        }
-    }
-
     // Takes bytes until the first that reports: a run of data bytes at once where that is the same, else one byte.
     fn walk(self, store: &mut [u8], bytes: &[u8]) -> Fed
         requires { ⌜ limit ≤ length (now store) ⌝ }
@@ -423,10 +372,10 @@ impl Decoder {
         let mut state = self;
         let mut used: usize = 0;
         while used < bytes.len() {
-            let run = state.quiet_run(&bytes[used..]);
+            let run = run::quiet_run(state, &bytes[used..]);
             if 0 < run {
                 let end = used + run;
-                state = state.after_run(store, &bytes[used..end]);
+                state = run::after_run(state, store, &bytes[used..end]);
                 used = end;
             } else {
                 let byte = bytes[used];

@@ -1,4 +1,4 @@
--- `Decoder::quiet_run` meets its contract.
+-- `quiet_run` meets its contract.
 use mathlib.Core.Path.{sym, _∙_, ap}
 use Prim.Native.Nat.{ℕ}
 use lib.ListN.{length, take}
@@ -7,14 +7,14 @@ use Rattle.data_bytes.specs.Data.{dataRun}
 use native.Mathlib.Omega.{arith}
 use Rattle.decoder.proofs.Runs.{reach-within}
 use borrow.Author.Needs.{needs}
-use Rattle.decoder.proofs.Decoder.quiet_run.Statement.{statement}
-use Rattle.decoder.proofs.Decoder.quiet_run.Tie as tie
+use Rattle.decoder.proofs.run.quiet_run.Statement.{statement}
+use Rattle.decoder.proofs.run.quiet_run.Tie as tie
 
 reach-requires : tie.Need-reach-requires
 reach-requires c κs = search needs
 
 slice-aggregate-data-run : tie.Need-slice-aggregate-data-run
-slice-aggregate-data-run c = let a = c .before .before .before .args in sym (length-take-le _ (a .bytes .now) (omega (arith, c .before .reach .ensures, reach-within (a .self) (length (a .bytes .now)))))
+slice-aggregate-data-run c = let a = c .before .before .before .args in sym (length-take-le _ (a .bytes .now) (omega (arith, c .before .reach .ensures, reach-within (a .state) (length (a .bytes .now)))))
 
 data-run-requires : tie.Need-data-run-requires
 data-run-requires c κs = search needs
