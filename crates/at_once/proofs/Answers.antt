@@ -1,6 +1,6 @@
 -- A call that begins with a whole message is answered from the message's own bytes, because the decoder would stop behind it with that report.
 use mathlib.Core.Path.{_≡_, refl, sym, ap, ap₂, subst, _∙_}
-use mathlib.Core.Bool.{Bool, true, false, _&&_}
+use mathlib.Core.Bool.{Bool, true, false, _&&_, _||_, not}
 use mathlib.Core.List.{List, [], _∷_}
 use Prim.Native.Nat.{ℕ, zero, suc, _+_, _-_, _≤_, _<_}
 use native.Mathlib.Omega.{arith}
@@ -9,7 +9,7 @@ use lib.ListN.{length, getD, take, drop, length-drop}
 use lib.Seq.{take-all, getD-drop}
 use borrow.Author.Tests.{lt-ltb, le-ltb, ltb-true, ltb-false, leb-true, eqb-true, eqb-false, eq-eqb, ne-eqb}
 use Rattle.laws.specs.Choice.{pick}
-use Rattle.laws.proofs.Tests.{both, split}
+use Rattle.laws.proofs.Tests.{both, split, true-is-not-false}
 use Rattle.data_bytes.specs.Data.{dataRun}
 use Rattle.data_bytes.proofs.Runs.{run-none, run-within, run-below, by-byte}
 use Rattle.wire.specs.Status.{dataLength, isChannelStatus}
@@ -19,21 +19,57 @@ use Rattle.decoder.specs.declared.RunningStatus.{RunningStatus}
 use Rattle.decoder.specs.declared.RunningStatus.the-variants as s
 use Rattle.decoder.specs.declared.Decoder.{Decoder}
 use Rattle.decoder.specs.declared.MaybeReport.{MaybeReport}
+use Rattle.decoder.specs.declared.MaybeReport.the-variants as o
 use Rattle.decoder.specs.Step.{completed, holding, kept, messageReport, realtimeReport}
 use Rattle.decoder.specs.Call.{Walked, walk, further}
 use Rattle.decoder.proofs.StepLaws.{channel-status-kept}
 use Rattle.decoder.proofs.SoundKept.{held-takes-data, at-most-two}
-use Rattle.decoder_bytes.specs.State.{encoded}
+use Rattle.decoder_bytes.specs.State.{encoded, statusByte}
 use Rattle.report_numbers.specs.declared.FedAnswer.{FedAnswer}
 use Rattle.report_numbers.specs.Reports.{numbersOf}
-use Rattle.at_once.specs.AtOnce.{isRealtime, realtimeNumbers, messageNumbers, inForce, waitingStatus, wholeLength, statusFor, dataAt, stateBehind, noAnswer, Answered, AtOnce}
+use Rattle.at_once.specs.AtOnce.{isRealtime, realtimeNumbers, messageNumbers, waitingStatus, wholeLength, statusFor, dataAt, stateBehind, atOnce, Answered, AtOnce}
 use Rattle.at_once.proofs.Numbers.{Told, message-told, one-told, realtime-told}
 use Rattle.at_once.proofs.Whole.{reported, realtime-first, one-byte, two-bytes, status-first}
 
--- nothing is used
-pub nothing-yet : (d : Decoder) (bytes : List ℕ) (r : FedAnswer) (state : List ℕ) → r ≡ noAnswer → AtOnce d bytes r state state
-nothing-yet d bytes r state e =
-    record { none = λ _. refl; some = λ h. absurd (omega (arith, h, ap (λ (x : FedAnswer). x .used) e)) }
+-- does a whole channel message stand at the front?
+abbrev wholeAhead : Decoder → List ℕ → Bool
+wholeAhead d bytes = ltb 0 (wholeLength (statusFor d (getD bytes 0 0)) (drop (dataAt (getD bytes 0 0)) bytes))
+
+-- what a caller sees of it by the count: nothing used, nothing written; something used, the decoder's call
+pub unused-same : (d : Decoder) (bytes : List ℕ) (r : FedAnswer) (state later : List ℕ) → AtOnce d bytes r state later → r .used ≡ 0 → later ≡ state
+unused-same d bytes r state later a z =
+    split (atOnce d bytes) (λ t. absurd (omega (arith, z, a .yes t .0))) (λ t. a .no t .1)
+
+pub used-answered : (d : Decoder) (bytes : List ℕ) (r : FedAnswer) (state later : List ℕ) → AtOnce d bytes r state later → 0 < r .used
+    → (store : List ℕ) → Answered d store bytes r later
+used-answered d bytes r state later a h =
+    split (atOnce d bytes) (λ t. a .yes t .1) (λ t. absurd (omega (arith, h, ap (λ (x : FedAnswer). x .used) (a .no t .0))))
+
+-- not answered at once
+nothing : (d : Decoder) (bytes : List ℕ) (r : FedAnswer) (state : List ℕ) → atOnce d bytes ≡ false → r ≡ numbersOf 0 false o.None → AtOnce d bytes r state state
+nothing d bytes r state f e = record { no = λ _. (e, refl); yes = λ t. absurd (true-is-not-false (sym t ∙ f)) }
+
+pub no-bytes : (d : Decoder) (bytes : List ℕ) (r : FedAnswer) (state : List ℕ) → length bytes ≡ 0 → r ≡ numbersOf 0 false o.None → AtOnce d bytes r state state
+no-bytes d bytes r state h e = nothing d bytes r state (rw h) e
+
+pub in-a-frame : (d : Decoder) (bytes : List ℕ) (r : FedAnswer) (state : List ℕ) → 0 < length bytes → isRealtime (getD bytes 0 0) ≡ false → d .in_sysex ≡ true
+    → r ≡ numbersOf 0 false o.None → AtOnce d bytes r state state
+in-a-frame d bytes r state h n t e =
+    nothing d bytes r state
+    (ap₂ (λ (x y : Bool). x && (y || (not (d .in_sysex) && wholeAhead d bytes))) (lt-ltb 0 (length bytes) h) n ∙ ap (λ (x : Bool). not x && wholeAhead d bytes) t) e
+
+pub not-whole : (d : Decoder) (bytes : List ℕ) (r : FedAnswer) (state : List ℕ) → 0 < length bytes → isRealtime (getD bytes 0 0) ≡ false → d .in_sysex ≡ false
+    → (v at takes : ℕ) → v ≡ statusFor d (getD bytes 0 0) → at ≡ dataAt (getD bytes 0 0) → takes ≡ wholeLength v (take (length bytes - at) (drop at bytes)) → takes ≡ 0
+    → r ≡ numbersOf 0 false o.None → AtOnce d bytes r state state
+not-whole d bytes r state h n f v at takes v-is at-is takes-is none e =
+    nothing d bytes r state
+    (ap₂ (λ (x y : Bool). x && (y || (not (d .in_sysex) && wholeAhead d bytes))) (lt-ltb 0 (length bytes) h) n
+    ∙ ap₂ (λ (x : Bool) (m : ℕ). not x && ltb 0 m) f zero-length) e
+  where
+    zero-length : wholeLength (statusFor d (getD bytes 0 0)) (drop (dataAt (getD bytes 0 0)) bytes) ≡ 0
+    zero-length =
+        ap₂ (λ (x i : ℕ). wholeLength x (drop i bytes)) (sym v-is) (sym at-is)
+        ∙ ap (wholeLength v) (sym (take-all (length bytes - at) (drop at bytes) (simp length-drop (omega arith)))) ∙ sym takes-is ∙ none
 
 -- a walk that stops with a report that has these numbers
 answered : (d : Decoder) (store bytes : List ℕ) (n : ℕ) (e : Decoder) (o : MaybeReport) (r : FedAnswer) (later : List ℕ) → walk d store bytes ≡ reported n e o store
@@ -57,10 +93,14 @@ realtime-answered d bytes r state later h small t e k =
     let b = getD bytes 0 0 in
     let x = realtime-told b small t in
     let l : 0xF8 ≤ b = leb-true 0xF8 b (both (leb 0xF8 b) _ t .0) in
+    let now : atOnce d bytes ≡ true = ap₂ (λ (u y : Bool). u && (y || (not (d .in_sysex) && wholeAhead d bytes))) (lt-ltb 0 (length bytes) h) t in
     record {
-      none = λ z. absurd (omega (arith, z, ap (λ (y : FedAnswer). y .used) e));
-      some = λ _ store. answered d store bytes 1 d (realtimeReport (realtimeOf b)) r later
-          (ap (walk d store) (led bytes h) ∙ realtime-first d store b (drop 1 bytes) l (x .some)) (e ∙ sym (x .numbers)) k;
+      no = λ f. absurd (true-is-not-false (sym now ∙ f));
+      yes = λ _. (
+        omega (arith, ap (λ (y : FedAnswer). y .used) e),
+        λ store. answered d store bytes 1 d (realtimeReport (realtimeOf b)) r later
+            (ap (walk d store) (led bytes h) ∙ realtime-first d store b (drop 1 bytes) l (x .some)) (e ∙ sym (x .numbers)) k,
+      );
     }
 
 -- the data of a channel message, under its status
@@ -143,9 +183,9 @@ whole-is v rest n =
 
 -- a status that data wait for
 waits : (d : Decoder) (v : ℕ) → 0x80 ≤ v → v ≡ waitingStatus d → (d .status ≡ s.Status v) × (d .have ≡ 0)
-waits d v l e = split (eqb (d .have) 0) (λ t. (force (d .status) refl (e ∙ ap (λ (u : Bool). pick u (inForce (d .status)) 0) t), eqb-true (d .have) 0 t)) (λ t. absurd (omega (arith, l, e ∙ ap (λ (u : Bool). pick u (inForce (d .status)) 0) t)))
+waits d v l e = split (eqb (d .have) 0) (λ t. (force (d .status) refl (e ∙ ap (λ (u : Bool). pick u (statusByte (d .status)) 0) t), eqb-true (d .have) 0 t)) (λ t. absurd (omega (arith, l, e ∙ ap (λ (u : Bool). pick u (statusByte (d .status)) 0) t)))
   where
-    force : (w : RunningStatus) → d .status ≡ w → v ≡ inForce w → d .status ≡ s.Status v
+    force : (w : RunningStatus) → d .status ≡ w → v ≡ statusByte w → d .status ≡ s.Status v
     force s.None q z = absurd (omega (arith, l, z))
     force (s.Status b) q z = q ∙ ap s.Status (sym z)
 
@@ -155,12 +195,12 @@ record Led (d : Decoder) (store bytes : List ℕ) (v f g n : ℕ) : Type 0 where
   walked : walk d store bytes ≡ reported n (stateBehind d v f g) report store
   told : Told report n (messageNumbers v f g n)
 
-led-answered : (d : Decoder) (bytes : List ℕ) (r : FedAnswer) (state later : List ℕ) (v f g n : ℕ) → 0 < n → r ≡ messageNumbers v f g n → later ≡ encoded (stateBehind d v f g)
+led-answered : (d : Decoder) (bytes : List ℕ) (r : FedAnswer) (state later : List ℕ) (v f g n : ℕ) → 0 < n → atOnce d bytes ≡ true → r ≡ messageNumbers v f g n → later ≡ encoded (stateBehind d v f g)
     → ((store : List ℕ) → Led d store bytes v f g n) → AtOnce d bytes r state later
-led-answered d bytes r state later v f g n some e k w =
+led-answered d bytes r state later v f g n some now e k w =
     record {
-      none = λ z. absurd (omega (arith, z, some, ap (λ (y : FedAnswer). y .used) e));
-      some = λ _ store. answered d store bytes n (stateBehind d v f g) (w store .report) r later (w store .walked) (e ∙ sym (w store .told .numbers)) k;
+      no = λ f. absurd (true-is-not-false (sym now ∙ f));
+      yes = λ _. (omega (arith, some, ap (λ (y : FedAnswer). y .used) e), λ store. answered d store bytes n (stateBehind d v f g) (w store .report) r later (w store .walked) (e ∙ sym (w store .told .numbers)) k);
     }
 
 -- with its status byte in force
@@ -198,6 +238,9 @@ module _ (d : Decoder) (bytes : List ℕ) (there : 0 < length bytes) (closed : d
   pub takes-all : takes ≡ dataLength v
   takes-all = length-is ∙ facts .3
 
+  own-length : wholeLength (statusFor d (getD bytes 0 0)) (drop (dataAt (getD bytes 0 0)) bytes) ≡ takes
+  own-length = ap₂ (λ (x i : ℕ). wholeLength x (drop i bytes)) (sym v-is) (sym at-is) ∙ sym length-is
+
   pub message-within : at + takes ≤ length bytes
   message-within = omega (arith, takes-all, facts .2, run-within (drop at bytes), length-drop at bytes, at-within bytes at there at-is)
 
@@ -208,14 +251,19 @@ module _ (d : Decoder) (bytes : List ℕ) (there : 0 < length bytes) (closed : d
       go zero e = absurd (some e)
       go (suc n) e = omega (arith, e)
 
+  now : isRealtime (getD bytes 0 0) ≡ false → atOnce d bytes ≡ true
+  now n =
+      ap₂ (λ (x y : Bool). x && (y || (not (d .in_sysex) && wholeAhead d bytes))) (lt-ltb 0 (length bytes) there) n
+      ∙ ap₂ (λ (x : Bool) (m : ℕ). not x && ltb 0 m) closed own-length ∙ lt-ltb 0 takes (omega (arith, takes-one))
+
   module _ (r : FedAnswer) (state later : List ℕ) (f g : ℕ) where
     same-numbers : (f' g' n' : ℕ) → f ≡ f' → g ≡ g' → at + takes ≡ n' → messageNumbers v f g (at + takes) ≡ messageNumbers v f' g' n'
     same-numbers f' g' n' x y z = ap₂ (λ (a c : ℕ). messageNumbers v a c (at + takes)) x y ∙ ap (messageNumbers v f' g') z
 
     -- data lead
-    plain : ltb (getD bytes 0 0) 0x80 ≡ true → f ≡ getD bytes at 0 → g ≡ getD bytes (at + takes - 1) 0 → r ≡ messageNumbers v f g (at + takes)
+    plain : isRealtime (getD bytes 0 0) ≡ false → ltb (getD bytes 0 0) 0x80 ≡ true → f ≡ getD bytes at 0 → g ≡ getD bytes (at + takes - 1) 0 → r ≡ messageNumbers v f g (at + takes)
         → later ≡ encoded (stateBehind d v f g) → AtOnce d bytes r state later
-    plain t p q e k =
+    plain n t p q e k =
         let start : at ≡ 0 = at-is ∙ ap (λ (u : Bool). pick u 0 1) t in
         let waiting : v ≡ waitingStatus d = v-is ∙ ap (λ (u : Bool). pick u (waitingStatus d) (getD bytes 0 0)) t in
         let all : dataLength v ≤ dataRun bytes = subst (λ (i : ℕ). dataLength v ≤ dataRun (drop i bytes)) start (facts .2) in
@@ -223,14 +271,14 @@ module _ (d : Decoder) (bytes : List ℕ) (there : 0 < length bytes) (closed : d
         let count : at + takes ≡ dataLength v = omega (arith, start, takes-all) in
         let first : f ≡ getD bytes 0 0 = p ∙ ap (λ (i : ℕ). getD bytes i 0) start in
         let second : g ≡ getD bytes (dataLength v - 1) 0 = q ∙ ap (λ (i : ℕ). getD bytes i 0) place in
-        led-answered d bytes r state later v (getD bytes 0 0) (getD bytes (dataLength v - 1) 0) (dataLength v) (omega (arith, takes-one, takes-all))
+        led-answered d bytes r state later v (getD bytes 0 0) (getD bytes (dataLength v - 1) 0) (dataLength v) (omega (arith, takes-one, takes-all)) (now n)
         (e ∙ same-numbers _ _ _ first second count) (k ∙ ap₂ (λ (x y : ℕ). encoded (stateBehind d v x y)) first second)
         (data-led d bytes v closed waiting (facts .0) (facts .1) all)
 
     -- the status byte leads
-    ahead : ltb (getD bytes 0 0) 0x80 ≡ false → f ≡ getD bytes at 0 → g ≡ getD bytes (at + takes - 1) 0 → r ≡ messageNumbers v f g (at + takes)
+    ahead : isRealtime (getD bytes 0 0) ≡ false → ltb (getD bytes 0 0) 0x80 ≡ false → f ≡ getD bytes at 0 → g ≡ getD bytes (at + takes - 1) 0 → r ≡ messageNumbers v f g (at + takes)
         → later ≡ encoded (stateBehind d v f g) → AtOnce d bytes r state later
-    ahead t p q e k =
+    ahead n t p q e k =
         let start : at ≡ 1 = at-is ∙ ap (λ (u : Bool). pick u 0 1) t in
         let own : v ≡ getD bytes 0 0 = v-is ∙ ap (λ (u : Bool). pick u (waitingStatus d) (getD bytes 0 0)) t in
         let all : dataLength v ≤ dataRun (drop 1 bytes) = subst (λ (i : ℕ). dataLength v ≤ dataRun (drop i bytes)) start (facts .2) in
@@ -239,11 +287,11 @@ module _ (d : Decoder) (bytes : List ℕ) (there : 0 < length bytes) (closed : d
         let first : f ≡ getD (drop 1 bytes) 0 0 = p ∙ ap (λ (i : ℕ). getD bytes i 0) start ∙ sym (getD-drop 1 bytes 0 0) in
         let second : g ≡ getD (drop 1 bytes) (dataLength v - 1) 0 = q ∙ ap (λ (i : ℕ). getD bytes i 0) place ∙ sym (getD-drop 1 bytes (dataLength v - 1) 0) in
         let whole : v ∷ drop 1 bytes ≡ bytes = ap (λ (x : ℕ). x ∷ drop 1 bytes) own ∙ sym (led bytes there) in
-        led-answered d bytes r state later v (getD (drop 1 bytes) 0 0) (getD (drop 1 bytes) (dataLength v - 1) 0) (1 + dataLength v) (omega arith)
+        led-answered d bytes r state later v (getD (drop 1 bytes) 0 0) (getD (drop 1 bytes) (dataLength v - 1) 0) (1 + dataLength v) (omega arith) (now n)
         (e ∙ same-numbers _ _ _ first second count) (k ∙ ap₂ (λ (x y : ℕ). encoded (stateBehind d v x y)) first second)
         (λ store. subst (λ (l : List ℕ). Led d store l v (getD (drop 1 bytes) 0 0) (getD (drop 1 bytes) (dataLength v - 1) 0) (1 + dataLength v)) whole
         (status-led d (drop 1 bytes) v closed (facts .0) (facts .1) all store))
 
-    pub message-answered : f ≡ getD bytes at 0 → g ≡ getD bytes (at + takes - 1) 0 → r ≡ messageNumbers v f g (at + takes) → later ≡ encoded (stateBehind d v f g)
+    pub message-answered : isRealtime (getD bytes 0 0) ≡ false → f ≡ getD bytes at 0 → g ≡ getD bytes (at + takes - 1) 0 → r ≡ messageNumbers v f g (at + takes) → later ≡ encoded (stateBehind d v f g)
         → AtOnce d bytes r state later
-    message-answered p q e k = split (ltb (getD bytes 0 0) 0x80) (λ t. plain t p q e k) (λ t. ahead t p q e k)
+    message-answered n p q e k = split (ltb (getD bytes 0 0) 0x80) (λ t. plain n t p q e k) (λ t. ahead n t p q e k)

@@ -15,8 +15,9 @@ use Rattle.wire.specs.Status.{dataLength}
 use Rattle.decoder.specs.declared.Class.the-variants as k
 use Rattle.decoder.specs.declared.RunningStatus.the-variants as s
 use Rattle.decoder.specs.declared.Decoder.{Decoder}
+use Rattle.decoder_bytes.specs.State.{statusByte}
 use Rattle.decoder.proofs.SoundKept.{held-takes-data, at-most-two}
-use Rattle.at_once.specs.AtOnce.{isRealtime, firstNumber, secondNumber, inForce, waitingStatus, wholeLength, statusFor, dataAt, stateBehind}
+use Rattle.at_once.specs.AtOnce.{isRealtime, firstNumber, secondNumber, waitingStatus, wholeLength, statusFor, dataAt, stateBehind}
 
 pub below-realtime : (b : ℕ) → b < 0xF8 → false ≡ isRealtime b
 below-realtime b h = rw (lt-leb 0xF8 b h)
@@ -40,10 +41,10 @@ pub second-missing : (v b : ℕ) → 0xC0 ≤ v → 0 ≡ secondNumber v b
 second-missing v b h = rw (le-ltb v 0xC0 h)
 
 pub one-pending : (d : Decoder) → (d .have ≡ 0 → ⊥) → 0 ≡ waitingStatus d
-one-pending d h = ap (λ (t : Bool). pick t (inForce (d .status)) 0) (sym (ne-eqb (d .have) 0 h))
+one-pending d h = ap (λ (t : Bool). pick t (statusByte (d .status)) 0) (sym (ne-eqb (d .have) 0 h))
 
-pub none-pending : (d : Decoder) → d .have ≡ 0 → inForce (d .status) ≡ waitingStatus d
-none-pending d h = ap (λ (t : Bool). pick t (inForce (d .status)) 0) (sym (eq-eqb (d .have) 0 h))
+pub none-pending : (d : Decoder) → d .have ≡ 0 → statusByte (d .status) ≡ waitingStatus d
+none-pending d h = ap (λ (t : Bool). pick t (statusByte (d .status)) 0) (sym (eq-eqb (d .have) 0 h))
 
 pub no-channel-low : (v : ℕ) (bytes : List ℕ) → v < 0x80 → 0 ≡ wholeLength v bytes
 no-channel-low v bytes h = rw (lt-leb 0x80 v h)

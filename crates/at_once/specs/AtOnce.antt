@@ -1,17 +1,18 @@
 -- Calls that are one whole message, answered at once. No promise uses this: the decoder's `walk` says what a call does.
 use mathlib.Core.Path.{_≡_}
-use mathlib.Core.Bool.{Bool, false, _&&_, not}
+use mathlib.Core.Bool.{Bool, true, false, _&&_, _||_, not}
 use mathlib.Core.List.{List}
 use Prim.Native.Nat.{ℕ, _+_, _*_, _<_}
 use lib.Dec.{ltb, leb, eqb}
+use lib.ListN.{length, getD, drop}
 use Rattle.laws.specs.Choice.{pick}
 use Rattle.data_bytes.specs.Data.{dataRun}
 use Rattle.wire.specs.Status.{dataLength, isChannelStatus}
-use Rattle.decoder.specs.declared.RunningStatus.{RunningStatus}
 use Rattle.decoder.specs.declared.RunningStatus.the-variants as s
 use Rattle.decoder.specs.declared.Decoder.{Decoder}
+use Rattle.decoder.specs.declared.MaybeReport.the-variants as o
 use Rattle.decoder.specs.Call.{walk}
-use Rattle.decoder_bytes.specs.State.{encoded}
+use Rattle.decoder_bytes.specs.State.{encoded, statusByte}
 use Rattle.report_numbers.specs.declared.FedAnswer.{FedAnswer}
 use Rattle.report_numbers.specs.Reports.{numbersOf}
 
@@ -36,14 +37,9 @@ abbrev pub messageNumbers : ℕ → ℕ → ℕ → ℕ → FedAnswer
 messageNumbers v a b n =
     record { number = 0; used = n; interrupted = 0; kind = 1; status = v; first = firstNumber v a b; second = secondNumber v b }
 
--- the status that data bytes belong to; 0 where there is none
-abbrev pub inForce : RunningStatus → ℕ
-inForce s.None = 0
-inForce (s.Status b) = b
-
--- the same of data bytes at the front of a call; 0 where one is pending
+-- the status that data bytes at the front of a call belong to; 0 where there is none, and where one is pending
 abbrev pub waitingStatus : Decoder → ℕ
-waitingStatus d = pick (eqb (d .have) 0) (inForce (d .status)) 0
+waitingStatus d = pick (eqb (d .have) 0) (statusByte (d .status)) 0
 
 -- how many data bytes of a channel status stand at the front, where all do; else 0
 abbrev pub wholeLength : ℕ → List ℕ → ℕ
@@ -62,9 +58,12 @@ abbrev pub stateBehind : Decoder → ℕ → ℕ → ℕ → Decoder
 stateBehind d v a b =
     record { in_sysex = false; len = 0; status = s.Status v; have = 0; data0 = a; data1 = pick (eqb (dataLength v) 1) (d .data1) b }
 
--- nothing used
-abbrev pub noAnswer : FedAnswer
-noAnswer = record { number = 0; used = 0; interrupted = 0; kind = 0; status = 0; first = 0; second = 0 }
+-- is the call answered at once? Where its bytes begin with a real-time message, or outside a frame with a whole channel message
+abbrev pub atOnce : Decoder → List ℕ → Bool
+atOnce d bytes =
+    ltb 0 (length bytes)
+    && (isRealtime (getD bytes 0 0)
+    || (not (d .in_sysex) && ltb 0 (wholeLength (statusFor d (getD bytes 0 0)) (drop (dataAt (getD bytes 0 0)) bytes))))
 
 -- the decoder's call answers r, leaves a state of these bytes, and the store as it was
 pub record Answered (d : Decoder) (store bytes : List ℕ) (r : FedAnswer) (later : List ℕ) : Type 0 where
@@ -72,7 +71,7 @@ pub record Answered (d : Decoder) (store bytes : List ℕ) (r : FedAnswer) (late
   pub kept : later ≡ encoded (walk d store bytes .fed .state)
   pub left : walk d store bytes .store ≡ store
 
--- either nothing is used and the state's bytes are as they were, or it is the decoder's call, whatever the store
+-- where it is, the answer and the state are the decoder's call's, whatever the store; else nothing is used, told and written
 pub record AtOnce (d : Decoder) (bytes : List ℕ) (r : FedAnswer) (state later : List ℕ) : Type 0 where
-  pub none : r .used ≡ 0 → later ≡ state
-  pub some : 0 < r .used → (store : List ℕ) → Answered d store bytes r later
+  pub no : atOnce d bytes ≡ false → (r ≡ numbersOf 0 false o.None) × (later ≡ state)
+  pub yes : atOnce d bytes ≡ true → (0 < r .used) × ((store : List ℕ) → Answered d store bytes r later)

@@ -1,9 +1,12 @@
 // Calls that are one whole message, by plain numbers: what the decoder's call answers, had without it.
 ghost use mathlib.Core.Path.{_≡_};
+ghost use mathlib.Core.Bool.{false};
 ghost use Prim.Native.Nat.{_≤_, _<_};
 ghost use lib.ListN.{length};
-ghost use Rattle.at_once.specs.AtOnce.{isRealtime, realtimeNumbers, firstNumber, secondNumber, messageNumbers, inForce, waitingStatus, wholeLength};
-ghost use Rattle.at_once.specs.AtOnce.{statusFor, dataAt, stateBehind, noAnswer, AtOnce};
+ghost use Rattle.decoder.specs.declared.MaybeReport.the-variants as o;
+ghost use Rattle.report_numbers.specs.Reports.{numbersOf};
+ghost use Rattle.at_once.specs.AtOnce.{isRealtime, realtimeNumbers, firstNumber, secondNumber, messageNumbers, waitingStatus, wholeLength};
+ghost use Rattle.at_once.specs.AtOnce.{statusFor, dataAt, stateBehind, AtOnce};
 use decoder::Decoder;
 use decoder::RunningStatus;
 use report_numbers::CHANNEL;
@@ -71,15 +74,6 @@ fn message_answer(status: u8, first: u8, second: u8, used: usize) -> FedAnswer
     }
 }
 
-fn in_force(status: RunningStatus) -> u8
-    ensures { λ r. ⌜ r ≡ inForce status ⌝ }
-{
-    match status {
-        RunningStatus::None => 0,
-        RunningStatus::Status(byte) => byte,
-    }
-}
-
 // The status that data bytes at the front belong to; 0 where there is none, and where one data byte is pending.
 fn waiting_status(d: Decoder) -> u8
     ensures { λ r. ⌜ r ≡ waitingStatus d ⌝ }
@@ -88,7 +82,7 @@ fn waiting_status(d: Decoder) -> u8
     if d.have != 0 {
         return 0;
     }
-    in_force(status)
+    decoder_bytes::status_byte(status)
 }
 
 // How many data bytes of a channel status stand at the front, where all do; else 0.
@@ -151,7 +145,7 @@ fn state_behind(d: Decoder, status: u8, first: u8, second: u8) -> Decoder
 }
 
 fn none() -> FedAnswer
-    ensures { λ r. ⌜ r ≡ noAnswer ⌝ }
+    ensures { λ r. ⌜ r ≡ numbersOf 0 false o.None ⌝ }
 {
     FedAnswer {
         number: 0,

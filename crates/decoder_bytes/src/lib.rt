@@ -82,7 +82,7 @@ fn status_flag(status: RunningStatus) -> u8
 }
 
 // The status byte, 0 where there is none.
-fn status_byte(status: RunningStatus) -> u8
+pub fn status_byte(status: RunningStatus) -> u8
     ensures { λ r. ⌜ r ≡ statusByte status ⌝ }
 {
     match status {

@@ -18,6 +18,7 @@ use Rattle.decoder.specs.State.{limit, sound}
 use Rattle.decoder.specs.Call.{Walked, call, answerOf as fedOf, answered, Feeds}
 use Rattle.decoder.proofs.Calling.{short-refused, unsound-refused, ready-walks}
 use Rattle.at_once.specs.AtOnce.{Answered, AtOnce}
+use Rattle.at_once.proofs.Answers.{used-answered}
 use Rattle.boundary.specs.declared.Answer.{Answer}
 use Rattle.boundary.specs.Answer.{answerOf, Sends}
 use Rattle.report_numbers.specs.declared.FedAnswer.{FedAnswer}
@@ -102,6 +103,6 @@ unsound-fed state store bytes r h bad e = refused-fed state store bytes r h (uns
 pub quick-fed : (state store bytes : List ℕ) (d : Decoder) (r : FedAnswer) (later : List ℕ) → isState state ≡ true → d ≡ stateOf state → limit ≤ length store
     → sound d ≡ true → AtOnce d bytes r state later → 0 < r .used → StreamFed (feedCall state store bytes) r state later store store
 quick-fed state store bytes d r later h e room good a some =
-    let b = subst (λ (x : Decoder). Answered x store bytes r later) e (a .some some store) in
+    let b = subst (λ (x : Decoder). Answered x store bytes r later) e (used-answered d bytes r state later a some store) in
     let c = ready-walks (stateOf state) store bytes room (subst (λ (x : Decoder). sound x ≡ true) e good) in
     decides state store bytes r later store h (record { answers = rw c (b .told); keeps = rw c (b .kept); leaves = rw c (sym (b .left)) })

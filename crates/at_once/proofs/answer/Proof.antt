@@ -5,7 +5,7 @@ use Prim.Native.Nat.{_<_}
 use lib.ListN.{length}
 use Rattle.decoder_bytes.specs.State.{encoded}
 use native.Mathlib.Omega.{arith}
-use Rattle.at_once.proofs.Answers.{nothing-yet, realtime-answered, at-within, takes-one, message-within, message-answered}
+use Rattle.at_once.proofs.Answers.{no-bytes, in-a-frame, not-whole, realtime-answered, at-within, takes-one, message-within, message-answered}
 use borrow.Author.Needs.{needs}
 use Rattle.at_once.proofs.answer.Statement.{statement}
 use Rattle.at_once.proofs.answer.Tie as tie
@@ -14,7 +14,7 @@ none-requires : tie.Need-none-requires
 none-requires c κs = search needs
 
 returns : tie.Need-returns
-returns c = let a = c .before .before .before .before .args in nothing-yet (a .d) (a .bytes .now) _ (a .state .now) (c .none .ensures)
+returns c = let a = c .before .before .before .before .args in no-bytes (a .d) (a .bytes .now) _ (a .state .now) (c .before .if1 .taken) (c .none .ensures)
 
 shared-slice-read-byte : tie.Need-shared-slice-read-byte
 shared-slice-read-byte c = search needs
@@ -38,7 +38,7 @@ none-requires-2 : tie.Need-none-requires-2
 none-requires-2 c κs = search needs
 
 returns-3 : tie.Need-returns-3
-returns-3 c = let a = c .before .before .before .before .before .before .before .before .args in nothing-yet (a .d) (a .bytes .now) _ (a .state .now) (c .none2 .ensures)
+returns-3 c = let a = c .before .before .before .before .before .before .before .before .args in in-a-frame (a .d) (a .bytes .now) _ (a .state .now) (omega arith) (sym (c .before .before .before .is-realtime .ensures) ∙ c .before .before .if2 .left) (c .before .if3 .taken) (c .none2 .ensures)
 
 status-for-requires : tie.Need-status-for-requires
 status-for-requires c κs = search needs
@@ -62,7 +62,8 @@ none-requires-3 : tie.Need-none-requires-3
 none-requires-3 c κs = search needs
 
 returns-4 : tie.Need-returns-4
-returns-4 c = let a = c .before .before .before .before .before .before .before .before .before .before .before .before .before .args in nothing-yet (a .d) (a .bytes .now) _ (a .state .now) (c .none3 .ensures)
+returns-4 c = let a = c .before .before .before .before .before .before .before .before .before .before .before .before .before .args in
+    not-whole (a .d) (a .bytes .now) _ (a .state .now) (omega arith) (sym (c .before .before .before .before .before .before .before .before .is-realtime .ensures) ∙ c .before .before .before .before .before .before .before .if2 .left) (c .before .before .before .before .before .before .if3 .left) _ _ _ (c .before .before .before .before .before .status-for .ensures) (c .before .before .before .before .data-at .ensures) (c .before .before .whole-len .ensures) (c .before .if4 .taken) (c .none3 .ensures)
 
 shared-slice-read-first : tie.Need-shared-slice-read-first
 shared-slice-read-first c = let a = c .before .before .before .before .before .before .before .before .before .before .before .before .before .args in
@@ -103,7 +104,7 @@ returns-5 : tie.Need-returns-5
 returns-5 c = let a = c .before .before .before .before .before .before .before .before .before .before .before .before .before .before .before .before .before .before .before .before .args in
     let there : 0 < length (a .bytes .now) = omega arith in
     message-answered (a .d) (a .bytes .now) there (c .before .before .before .before .before .before .before .before .before .before .before .before .before .if3 .left) _ _ _ (c .before .before .before .before .before .before .before .before .before .before .before .before .status-for .ensures) (c .before .before .before .before .before .before .before .before .before .before .before .data-at .ensures) (c .before .before .before .before .before .before .before .before .before .whole-len .ensures) (c .before .before .before .before .before .before .before .before .if4 .left)
-    _ (a .state .now) _ _ _ refl refl (c .message-answer .ensures) (c .before .before .before .put-state2 .ensures ∙ ap encoded (c .before .before .before .before .before .state-behind .ensures))
+    _ (a .state .now) _ _ _ (sym (c .before .before .before .before .before .before .before .before .before .before .before .before .before .before .before .is-realtime .ensures) ∙ c .before .before .before .before .before .before .before .before .before .before .before .before .before .before .if2 .left) refl refl (c .message-answer .ensures) (c .before .before .before .put-state2 .ensures ∙ ap encoded (c .before .before .before .before .before .state-behind .ensures))
 
 pub answer-spec : {M : Type 1} → statement M
 answer-spec =

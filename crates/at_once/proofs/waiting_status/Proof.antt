@@ -8,11 +8,11 @@ use Rattle.at_once.proofs.waiting_status.Tie as tie
 returns : tie.Need-returns
 returns c = one-pending (c .before .before .args .d) (c .if1 .taken)
 
-in-force-requires : tie.Need-in-force-requires
-in-force-requires c κs = search needs
+status-byte-requires : tie.Need-status-byte-requires
+status-byte-requires c κs = search needs
 
 returns-2 : tie.Need-returns-2
-returns-2 c = c .in-force .ensures ∙ none-pending (c .before .before .before .args .d) (c .before .if1 .left)
+returns-2 c = c .status-byte .ensures ∙ none-pending (c .before .before .before .args .d) (c .before .if1 .left)
 
 pub waiting-status-spec : {M : Type 1} → statement M
-waiting-status-spec = tie.close (tie.spec returns in-force-requires returns-2)
+waiting-status-spec = tie.close (tie.spec returns status-byte-requires returns-2)

@@ -2,6 +2,7 @@
 -- answered at once; else the decoder's call, and its next state back into the bytes.
 use Rattle.host_stream.proofs.Feeding.{no-state, short-fed, unsound-fed, quick-fed, feed-refused, feed-done}
 use Rattle.host_stream.specs.Stream.{feedCall, StreamFed}
+use Rattle.at_once.proofs.Answers.{unused-same}
 use Rattle.decoder_bytes.proofs.StateBytes.{state-is-long}
 use Rattle.decoder.specs.State.{sound}
 use Rattle.decoder.specs.Call.{call, Feeds}
@@ -83,7 +84,7 @@ enum-known-fed : tie.Need-enum-known-fed
 enum-known-fed c = search needs
 
 put-state-requires : tie.Need-put-state-requires
-put-state-requires c κs = ap length (c .before .before .before .before .before .before .before .before .before .before .before .before .before .answer .ensures .none (omega arith)) ∙ state-is-long (c .before .before .before .before .before .before .before .before .before .before .before .before .before .before .before .before .before .before .before .before .before .before .before .before .before .before .args .state .now) (sym (c .before .before .before .before .before .before .before .before .before .before .before .before .before .before .before .before .before .before .before .before .before .is-state .ensures) ∙ not-false _ (c .before .before .before .before .before .before .before .before .before .before .before .before .before .before .before .before .before .before .before .before .if1 .left))
+put-state-requires c κs = ap length (unused-same _ _ _ _ _ (c .before .before .before .before .before .before .before .before .before .before .before .before .before .answer .ensures) (omega arith)) ∙ state-is-long (c .before .before .before .before .before .before .before .before .before .before .before .before .before .before .before .before .before .before .before .before .before .before .before .before .before .before .args .state .now) (sym (c .before .before .before .before .before .before .before .before .before .before .before .before .before .before .before .before .before .before .before .before .before .is-state .ensures) ∙ not-false _ (c .before .before .before .before .before .before .before .before .before .before .before .before .before .before .before .before .before .before .before .before .if1 .left))
 
 numbers-requires : tie.Need-numbers-requires
 numbers-requires c κs = search needs
@@ -99,7 +100,7 @@ returns-5 c = let a = c .before .before .before .before .before .before .before 
     let f = c .before .before .before .before .before .before .before .feed in
     let e = c .before .before .before .e .given in
     let q = c .before .before .before .before .before .before .before .before .before .before .before .before .before .answer in
-    let same : q .last .1 .0 ≡ a .state .now = q .ensures .none (omega arith) in
+    let same : q .last .1 .0 ≡ a .state .now = unused-same _ _ _ _ _ (q .ensures) (omega arith) in
     subst (λ (l : List ℕ). StreamFed (feedCall (a .state .now) (a .store .now) (a .bytes .now)) (c .refused-feed4 .result) (a .state .now) l (a .store .now) (f .last .1 .0)) (sym same)
     (feed-refused (a .state .now) (a .store .now) (a .bytes .now) (e .0 .0) (f .result) (f .last .1 .0) (c .before .number .result) (c .refused-feed4 .result) (sym (c .before .before .before .before .before .before .before .before .before .before .before .before .before .before .before .before .before .before .before .before .before .is-state .ensures) ∙ not-false _ (c .before .before .before .before .before .before .before .before .before .before .before .before .before .before .before .before .before .before .before .before .if1 .left))
     (e .1) (subst (λ (d : Decoder). Feeds (call d (a .store .now) (a .bytes .now)) (f .result) (a .store .now) (f .last .1 .0)) (c .before .before .before .before .before .before .before .before .before .before .before .before .before .before .before .before .before .before .state-of .ensures) (f .ensures))
