@@ -1,9 +1,13 @@
 // The C entry point that reads frames.
 ghost use mathlib.Core.Path.{_≡_};
 ghost use mathlib.Core.List.{[]};
+ghost use lib.Dec.{eqb};
+ghost use lib.ListN.{length};
 ghost use Rattle.refusal.specs.Outcome.{refusal};
 ghost use Rattle.frame_reader.specs.Reader.{readRecord};
+ghost use Rattle.laws.specs.Choice.{pick};
 ghost use Rattle.host_frames.specs.Frames.{numbersOf, readAnswer};
+ghost use Rattle.host_frames.specs.Bare.{isDevice, bareFrame, bareNumbers};
 use command::Command;
 use device::DeviceId;
 use fields::Fields;
@@ -99,9 +103,8 @@ fn not_read(e: Refusal) -> ReadAnswer
     }
 }
 
-// Reads a frame, F0 to F7. Refuses 1, 2, 3, 4, 5, 6, then by its payload 7, 8, 13, 12, 9, 11; behind 2 no program byte is out of range.
-#[no_mangle]
-pub extern "C" fn dm_frame_read(bytes: &[u8]) -> ReadAnswer
+// What the reader says of a frame, and where its run lies.
+fn read_any(bytes: &[u8]) -> ReadAnswer
     ensures { λ r. ⌜ r ≡ readAnswer (readRecord (now (bytes .entry))) (now (bytes .entry)) ⌝ }
 {
     match frame_reader::read_record(bytes) {
@@ -118,4 +121,83 @@ pub extern "C" fn dm_frame_read(bytes: &[u8]) -> ReadAnswer
             numbers(device, command, fields, start, end - start)
         }
     }
+}
+
+// Is this a device byte: a unit, or everyone?
+fn is_device(byte: u8) -> bool
+    ensures { λ r. ⌜ r ≡ isDevice byte ⌝ }
+{
+    if byte < 16 {
+        return true;
+    }
+    byte == DeviceId::BROADCAST_BYTE
+}
+
+// Are these eight bytes a frame without payload?
+fn is_bare_frame(bytes: &[u8]) -> bool
+    requires { ⌜ length (now bytes) ≡ 8 ⌝ }
+    ensures { λ r. ⌜ r ≡ bareFrame (now (bytes .entry)) ⌝ }
+{
+    let front = [framing::SYSEX_START, 0x00, 0x20, 0x32, 0x20];
+    if !framing::same_bytes(&bytes[0..5], &front) {
+        return false;
+    }
+    if bytes[7] != framing::SYSEX_END {
+        return false;
+    }
+    if !is_device(bytes[5]) {
+        return false;
+    }
+    bare::is_bare(bytes[6])
+}
+
+// The unit of a device byte; 0 for everyone.
+fn unit_in(device: u8) -> u64
+    ensures { λ r. ⌜ r ≡ pick (eqb device 0x7F) 0 device ⌝ }
+{
+    if device == DeviceId::BROADCAST_BYTE {
+        return 0;
+    }
+    device as u64
+}
+
+// The numbers of a frame without payload, by its device byte and its code.
+fn bare_numbers(device: u8, code: u8) -> ReadAnswer
+    ensures { λ r. ⌜ r ≡ bareNumbers device code ⌝ }
+{
+    ReadAnswer {
+        number: 0,
+        detail0: 0,
+        detail1: 0,
+        detail2: 0,
+        detail3: 0,
+        everyone: boundary::flag_of(device == DeviceId::BROADCAST_BYTE) as u64,
+        unit: unit_in(device),
+        command: code as u64,
+        free: 0,
+        version: 0,
+        bank: 0,
+        program: 0,
+        last: 0,
+        pattern: 0,
+        has_pattern: 0,
+        interface: 0,
+        rx: 0,
+        tx: 0,
+        run_start: 0,
+        run_len: 0,
+    }
+}
+
+// Reads a frame, F0 to F7. Refuses 1, 2, 3, 4, 5, 6, then by its payload 7, 8, 13, 12, 9, 11; behind 2 no program byte is out of range.
+#[no_mangle]
+pub extern "C" fn dm_frame_read(bytes: &[u8]) -> ReadAnswer
+    ensures { λ r. ⌜ r ≡ readAnswer (readRecord (now (bytes .entry))) (now (bytes .entry)) ⌝ }
+{
+    if bytes.len() == 8 {
+        if is_bare_frame(bytes) {
+            return bare_numbers(bytes[5], bytes[6]);
+        }
+    }
+    read_any(bytes)
 }
