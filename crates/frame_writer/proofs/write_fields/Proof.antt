@@ -70,7 +70,7 @@ put-seven-bit-requires c κs = let w = c .before .before .before .before .before
     let need = needed-own (a .command) (p .result .len) (length (a .run .now)) (n .0 .0) (ap counted (sym (n .1)) ∙ w .before .before .frame-len .ensures) in
     let front = ap length (padded-front (prefixOf (a .command) (a .fields)) (p .result .bytes) (p .result .len) (p .ensures)) in
     let run = length-take-le (o .result) (a .run .now) (own-within (a .command) (a .run .now) (o .result) (o .ensures)) in
-    omega (arith, need, front, run, o .ensures, p .ensures .long, c .before .before .before .before .before .if1 .left)
+    (omega (arith, front, p .ensures .long, prefix-small (a .command) (a .fields)), omega (arith, need, front, run, o .ensures, p .ensures .long, c .before .before .before .before .before .if1 .left))
 
 returns-2 : tie.Need-returns-2
 returns-2 c = refused-first _ _ (c .before .e .given .0 .0) _ (ap fieldsTold (sym (c .before .e .given .1)) ∙ c .before .before .before .check .ensures)
