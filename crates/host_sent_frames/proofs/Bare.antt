@@ -15,7 +15,7 @@ use Rattle.boundary.specs.Answer.{Sends}
 use Rattle.frame_writer.specs.Writer.{row, recordWrite}
 use Rattle.bare.specs.Bare.{bareCode}
 use Rattle.bare.proofs.Codes.{of-bare}
-use Rattle.host_sent_frames.specs.Sent.{bareSent}
+use Rattle.host_sent_frames.specs.Bare.{bareSent}
 
 module _ (d : DeviceId) (code : ℕ) (room : ℕ) (h : bareSent d code room ≡ true) where
   pub bare-room : 8 ≤ room
