@@ -1,6 +1,6 @@
 -- A call that begins with a whole message is answered from the message's own bytes, because the decoder would stop behind it with that report.
 use mathlib.Core.Path.{_≡_, refl, sym, ap, ap₂, subst, _∙_}
-use mathlib.Core.Bool.{Bool, true, false, _&&_, _||_, not}
+use mathlib.Core.Bool.{Bool, true, false, _&&_, not}
 use mathlib.Core.List.{List, [], _∷_}
 use Prim.Native.Nat.{ℕ, zero, suc, _+_, _-_, _≤_, _<_}
 use native.Mathlib.Omega.{arith}
@@ -27,7 +27,7 @@ use Rattle.decoder.proofs.SoundKept.{held-takes-data, at-most-two}
 use Rattle.decoder_bytes.specs.State.{encoded, statusByte}
 use Rattle.report_numbers.specs.declared.FedAnswer.{FedAnswer}
 use Rattle.report_numbers.specs.Reports.{numbersOf}
-use Rattle.at_once.specs.AtOnce.{isRealtime, realtimeNumbers, messageNumbers, waitingStatus, wholeLength, statusFor, dataAt, stateBehind, atOnce, Answered, AtOnce}
+use Rattle.at_once.specs.AtOnce.{isRealtime, realtimeLeads, realtimeNumbers, messageNumbers, waitingStatus, wholeLength, statusFor, dataAt, stateBehind, atOnce, Numbered, AtOnce}
 use Rattle.at_once.proofs.Numbers.{Told, message-told, one-told, realtime-told}
 use Rattle.at_once.proofs.Whole.{reported, realtime-first, one-byte, two-bytes, status-first}
 
@@ -41,7 +41,7 @@ unused-same d bytes r state later a z =
     split (atOnce d bytes) (λ t. absurd (omega (arith, z, a .yes t .0))) (λ t. a .no t .1)
 
 pub used-answered : (d : Decoder) (bytes : List ℕ) (r : FedAnswer) (state later : List ℕ) → AtOnce d bytes r state later → 0 < r .used
-    → (store : List ℕ) → Answered d store bytes r later
+    → (store : List ℕ) → Numbered (walk d store bytes) r later store
 used-answered d bytes r state later a h =
     split (atOnce d bytes) (λ t. a .yes t .1) (λ t. absurd (omega (arith, h, ap (λ (x : FedAnswer). x .used) (a .no t .0))))
 
@@ -52,19 +52,18 @@ nothing d bytes r state f e = record { no = λ _. (e, refl); yes = λ t. absurd 
 pub no-bytes : (d : Decoder) (bytes : List ℕ) (r : FedAnswer) (state : List ℕ) → length bytes ≡ 0 → r ≡ numbersOf 0 false o.None → AtOnce d bytes r state state
 no-bytes d bytes r state h e = nothing d bytes r state (rw h) e
 
-pub in-a-frame : (d : Decoder) (bytes : List ℕ) (r : FedAnswer) (state : List ℕ) → 0 < length bytes → isRealtime (getD bytes 0 0) ≡ false → d .in_sysex ≡ true
+pub in-a-frame : (d : Decoder) (bytes : List ℕ) (r : FedAnswer) (state : List ℕ) → 0 < length bytes → d .in_sysex ≡ true
     → r ≡ numbersOf 0 false o.None → AtOnce d bytes r state state
-in-a-frame d bytes r state h n t e =
-    nothing d bytes r state
-    (ap₂ (λ (x y : Bool). x && (y || (not (d .in_sysex) && wholeAhead d bytes))) (lt-ltb 0 (length bytes) h) n ∙ ap (λ (x : Bool). not x && wholeAhead d bytes) t) e
+in-a-frame d bytes r state h t e =
+    nothing d bytes r state (ap₂ (λ (x y : Bool). x && (not y && wholeAhead d bytes)) (lt-ltb 0 (length bytes) h) t) e
 
-pub not-whole : (d : Decoder) (bytes : List ℕ) (r : FedAnswer) (state : List ℕ) → 0 < length bytes → isRealtime (getD bytes 0 0) ≡ false → d .in_sysex ≡ false
+pub not-whole : (d : Decoder) (bytes : List ℕ) (r : FedAnswer) (state : List ℕ) → 0 < length bytes → d .in_sysex ≡ false
     → (v at takes : ℕ) → v ≡ statusFor d (getD bytes 0 0) → at ≡ dataAt (getD bytes 0 0) → takes ≡ wholeLength v (take (length bytes - at) (drop at bytes)) → takes ≡ 0
     → r ≡ numbersOf 0 false o.None → AtOnce d bytes r state state
-not-whole d bytes r state h n f v at takes v-is at-is takes-is none e =
+not-whole d bytes r state h f v at takes v-is at-is takes-is none e =
     nothing d bytes r state
-    (ap₂ (λ (x y : Bool). x && (y || (not (d .in_sysex) && wholeAhead d bytes))) (lt-ltb 0 (length bytes) h) n
-    ∙ ap₂ (λ (x : Bool) (m : ℕ). not x && ltb 0 m) f zero-length) e
+    (ap₂ (λ (x y : Bool). x && (not y && wholeAhead d bytes)) (lt-ltb 0 (length bytes) h) f
+    ∙ ap (ltb 0) zero-length) e
   where
     zero-length : wholeLength (statusFor d (getD bytes 0 0)) (drop (dataAt (getD bytes 0 0)) bytes) ≡ 0
     zero-length =
@@ -72,36 +71,34 @@ not-whole d bytes r state h n f v at takes v-is at-is takes-is none e =
         ∙ ap (wholeLength v) (sym (take-all (length bytes - at) (drop at bytes) (simp length-drop (omega arith)))) ∙ sym takes-is ∙ none
 
 -- a walk that stops with a report that has these numbers
-answered : (d : Decoder) (store bytes : List ℕ) (n : ℕ) (e : Decoder) (o : MaybeReport) (r : FedAnswer) (later : List ℕ) → walk d store bytes ≡ reported n e o store
-    → r ≡ numbersOf n false o → later ≡ encoded e → Answered d store bytes r later
-answered d store bytes n e o r later w t k =
+pub numbered : (w : Walked) (n : ℕ) (e : Decoder) (o : MaybeReport) (store : List ℕ) (r : FedAnswer) (later left : List ℕ) → w ≡ reported n e o store
+    → r ≡ numbersOf n false o → later ≡ encoded e → left ≡ store → Numbered w r later left
+numbered w n e o store r later left q t k l =
     record {
-      told = t ∙ ap (λ (x : Walked). numbersOf (x .fed .used) (x .fed .interrupted) (x .fed .report)) (sym w);
-      kept = k ∙ ap (λ (x : Walked). encoded (x .fed .state)) (sym w);
-      left = ap (λ (x : Walked). x .store) w;
+      told = t ∙ ap (λ (x : Walked). numbersOf (x .fed .used) (x .fed .interrupted) (x .fed .report)) (sym q);
+      kept = k ∙ ap (λ (x : Walked). encoded (x .fed .state)) (sym q);
+      store = l ∙ sym (ap (λ (x : Walked). x .store) q);
     }
+
+answered : (d : Decoder) (store bytes : List ℕ) (n : ℕ) (e : Decoder) (o : MaybeReport) (r : FedAnswer) (later : List ℕ) → walk d store bytes ≡ reported n e o store
+    → r ≡ numbersOf n false o → later ≡ encoded e → Numbered (walk d store bytes) r later store
+answered d store bytes n e o r later w t k = numbered (walk d store bytes) n e o store r later store w t k refl
 
 -- the bytes by their first
 led : (bytes : List ℕ) → 0 < length bytes → bytes ≡ getD bytes 0 0 ∷ drop 1 bytes
 led [] h = absurd (omega arith)
 led (b ∷ bs) h = refl
 
--- a real-time message
-pub realtime-answered : (d : Decoder) (bytes : List ℕ) (r : FedAnswer) (state later : List ℕ) → 0 < length bytes → getD bytes 0 0 < 256
-    → isRealtime (getD bytes 0 0) ≡ true → r ≡ realtimeNumbers (getD bytes 0 0) → later ≡ encoded d → AtOnce d bytes r state later
-realtime-answered d bytes r state later h small t e k =
+-- a real-time message leads
+pub realtime-answered : (d : Decoder) (store bytes : List ℕ) (r : FedAnswer) (state : List ℕ) → getD bytes 0 0 < 256
+    → realtimeLeads bytes ≡ true → r ≡ realtimeNumbers (getD bytes 0 0) 1 → state ≡ encoded d → Numbered (walk d store bytes) r state store
+realtime-answered d store bytes r state small t e k =
     let b = getD bytes 0 0 in
-    let x = realtime-told b small t in
-    let l : 0xF8 ≤ b = leb-true 0xF8 b (both (leb 0xF8 b) _ t .0) in
-    let now : atOnce d bytes ≡ true = ap₂ (λ (u y : Bool). u && (y || (not (d .in_sysex) && wholeAhead d bytes))) (lt-ltb 0 (length bytes) h) t in
-    record {
-      no = λ f. absurd (true-is-not-false (sym now ∙ f));
-      yes = λ _. (
-        omega (arith, ap (λ (y : FedAnswer). y .used) e),
-        λ store. answered d store bytes 1 d (realtimeReport (realtimeOf b)) r later
-            (ap (walk d store) (led bytes h) ∙ realtime-first d store b (drop 1 bytes) l (x .some)) (e ∙ sym (x .numbers)) k,
-      );
-    }
+    let p = both (ltb 0 (length bytes)) (isRealtime b) t in
+    let x = realtime-told b 1 small (p .1) in
+    let l : 0xF8 ≤ b = leb-true 0xF8 b (both (leb 0xF8 b) _ (p .1) .0) in
+    answered d store bytes 1 d (realtimeReport (realtimeOf b)) r state
+    (ap (walk d store) (led bytes (ltb-true 0 (length bytes) (p .0))) ∙ realtime-first d store b (drop 1 bytes) l (x .some)) (e ∙ sym (x .numbers)) k
 
 -- the data of a channel message, under its status
 record Walks (e : Decoder) (store rest : List ℕ) (v : ℕ) : Type 0 where
@@ -110,7 +107,7 @@ record Walks (e : Decoder) (store rest : List ℕ) (v : ℕ) : Type 0 where
   told : (n : ℕ) → Told report n (messageNumbers v (getD rest 0 0) (getD rest (dataLength v - 1) 0) n)
 
 -- a status with one data byte
-one-status : (v : ℕ) → 0x80 ≤ v → v < 0xF0 → dataLength v ≡ 1 → (0xC0 ≤ v) × (v < 0xE0)
+pub one-status : (v : ℕ) → 0x80 ≤ v → v < 0xF0 → dataLength v ≡ 1 → (0xC0 ≤ v) × (v < 0xE0)
 one-status v l h one =
     split (ltb v 0xC0) (λ t. absurd (omega (arith, one, two-low v l (ltb-true v 0xC0 t))))
     (λ t. split (ltb v 0xE0) (λ u. (ltb-false v 0xC0 t, ltb-true v 0xE0 u)) (λ u. absurd (omega (arith, one, two-high v (ltb-false v 0xE0 u) h))))
@@ -251,19 +248,19 @@ module _ (d : Decoder) (bytes : List ℕ) (there : 0 < length bytes) (closed : d
       go zero e = absurd (some e)
       go (suc n) e = omega (arith, e)
 
-  now : isRealtime (getD bytes 0 0) ≡ false → atOnce d bytes ≡ true
-  now n =
-      ap₂ (λ (x y : Bool). x && (y || (not (d .in_sysex) && wholeAhead d bytes))) (lt-ltb 0 (length bytes) there) n
-      ∙ ap₂ (λ (x : Bool) (m : ℕ). not x && ltb 0 m) closed own-length ∙ lt-ltb 0 takes (omega (arith, takes-one))
+  now : atOnce d bytes ≡ true
+  now =
+      ap₂ (λ (x y : Bool). x && (not y && wholeAhead d bytes)) (lt-ltb 0 (length bytes) there) closed
+      ∙ ap (ltb 0) own-length ∙ lt-ltb 0 takes (omega (arith, takes-one))
 
   module _ (r : FedAnswer) (state later : List ℕ) (f g : ℕ) where
     same-numbers : (f' g' n' : ℕ) → f ≡ f' → g ≡ g' → at + takes ≡ n' → messageNumbers v f g (at + takes) ≡ messageNumbers v f' g' n'
     same-numbers f' g' n' x y z = ap₂ (λ (a c : ℕ). messageNumbers v a c (at + takes)) x y ∙ ap (messageNumbers v f' g') z
 
     -- data lead
-    plain : isRealtime (getD bytes 0 0) ≡ false → ltb (getD bytes 0 0) 0x80 ≡ true → f ≡ getD bytes at 0 → g ≡ getD bytes (at + takes - 1) 0 → r ≡ messageNumbers v f g (at + takes)
+    plain : ltb (getD bytes 0 0) 0x80 ≡ true → f ≡ getD bytes at 0 → g ≡ getD bytes (at + takes - 1) 0 → r ≡ messageNumbers v f g (at + takes)
         → later ≡ encoded (stateBehind d v f g) → AtOnce d bytes r state later
-    plain n t p q e k =
+    plain t p q e k =
         let start : at ≡ 0 = at-is ∙ ap (λ (u : Bool). pick u 0 1) t in
         let waiting : v ≡ waitingStatus d = v-is ∙ ap (λ (u : Bool). pick u (waitingStatus d) (getD bytes 0 0)) t in
         let all : dataLength v ≤ dataRun bytes = subst (λ (i : ℕ). dataLength v ≤ dataRun (drop i bytes)) start (facts .2) in
@@ -271,14 +268,14 @@ module _ (d : Decoder) (bytes : List ℕ) (there : 0 < length bytes) (closed : d
         let count : at + takes ≡ dataLength v = omega (arith, start, takes-all) in
         let first : f ≡ getD bytes 0 0 = p ∙ ap (λ (i : ℕ). getD bytes i 0) start in
         let second : g ≡ getD bytes (dataLength v - 1) 0 = q ∙ ap (λ (i : ℕ). getD bytes i 0) place in
-        led-answered d bytes r state later v (getD bytes 0 0) (getD bytes (dataLength v - 1) 0) (dataLength v) (omega (arith, takes-one, takes-all)) (now n)
+        led-answered d bytes r state later v (getD bytes 0 0) (getD bytes (dataLength v - 1) 0) (dataLength v) (omega (arith, takes-one, takes-all)) now
         (e ∙ same-numbers _ _ _ first second count) (k ∙ ap₂ (λ (x y : ℕ). encoded (stateBehind d v x y)) first second)
         (data-led d bytes v closed waiting (facts .0) (facts .1) all)
 
     -- the status byte leads
-    ahead : isRealtime (getD bytes 0 0) ≡ false → ltb (getD bytes 0 0) 0x80 ≡ false → f ≡ getD bytes at 0 → g ≡ getD bytes (at + takes - 1) 0 → r ≡ messageNumbers v f g (at + takes)
+    ahead : ltb (getD bytes 0 0) 0x80 ≡ false → f ≡ getD bytes at 0 → g ≡ getD bytes (at + takes - 1) 0 → r ≡ messageNumbers v f g (at + takes)
         → later ≡ encoded (stateBehind d v f g) → AtOnce d bytes r state later
-    ahead n t p q e k =
+    ahead t p q e k =
         let start : at ≡ 1 = at-is ∙ ap (λ (u : Bool). pick u 0 1) t in
         let own : v ≡ getD bytes 0 0 = v-is ∙ ap (λ (u : Bool). pick u (waitingStatus d) (getD bytes 0 0)) t in
         let all : dataLength v ≤ dataRun (drop 1 bytes) = subst (λ (i : ℕ). dataLength v ≤ dataRun (drop i bytes)) start (facts .2) in
@@ -287,11 +284,11 @@ module _ (d : Decoder) (bytes : List ℕ) (there : 0 < length bytes) (closed : d
         let first : f ≡ getD (drop 1 bytes) 0 0 = p ∙ ap (λ (i : ℕ). getD bytes i 0) start ∙ sym (getD-drop 1 bytes 0 0) in
         let second : g ≡ getD (drop 1 bytes) (dataLength v - 1) 0 = q ∙ ap (λ (i : ℕ). getD bytes i 0) place ∙ sym (getD-drop 1 bytes (dataLength v - 1) 0) in
         let whole : v ∷ drop 1 bytes ≡ bytes = ap (λ (x : ℕ). x ∷ drop 1 bytes) own ∙ sym (led bytes there) in
-        led-answered d bytes r state later v (getD (drop 1 bytes) 0 0) (getD (drop 1 bytes) (dataLength v - 1) 0) (1 + dataLength v) (omega arith) (now n)
+        led-answered d bytes r state later v (getD (drop 1 bytes) 0 0) (getD (drop 1 bytes) (dataLength v - 1) 0) (1 + dataLength v) (omega arith) now
         (e ∙ same-numbers _ _ _ first second count) (k ∙ ap₂ (λ (x y : ℕ). encoded (stateBehind d v x y)) first second)
         (λ store. subst (λ (l : List ℕ). Led d store l v (getD (drop 1 bytes) 0 0) (getD (drop 1 bytes) (dataLength v - 1) 0) (1 + dataLength v)) whole
         (status-led d (drop 1 bytes) v closed (facts .0) (facts .1) all store))
 
-    pub message-answered : isRealtime (getD bytes 0 0) ≡ false → f ≡ getD bytes at 0 → g ≡ getD bytes (at + takes - 1) 0 → r ≡ messageNumbers v f g (at + takes) → later ≡ encoded (stateBehind d v f g)
+    pub message-answered : f ≡ getD bytes at 0 → g ≡ getD bytes (at + takes - 1) 0 → r ≡ messageNumbers v f g (at + takes) → later ≡ encoded (stateBehind d v f g)
         → AtOnce d bytes r state later
-    message-answered n p q e k = split (ltb (getD bytes 0 0) 0x80) (λ t. plain n t p q e k) (λ t. ahead n t p q e k)
+    message-answered p q e k = split (ltb (getD bytes 0 0) 0x80) (λ t. plain t p q e k) (λ t. ahead t p q e k)

@@ -94,8 +94,8 @@ one-told v a b n low l h =
     record { some = t .some; numbers = t .numbers ∙ rw (lt-ltb v 0xE0 h, le-ltb v 0xC0 l) refl }
 
 -- a real-time message's
-pub realtime-told : (b : ℕ) → b < 256 → isRealtime b ≡ true → Told (realtimeReport (realtimeOf b)) 1 (realtimeNumbers b)
-realtime-told b small h =
+pub realtime-told : (b n : ℕ) → b < 256 → isRealtime b ≡ true → Told (realtimeReport (realtimeOf b)) n (realtimeNumbers b n)
+realtime-told b n small h =
     let e = both (leb 0xF8 b) (not (eqb b 0xF9) && not (eqb b 0xFD)) h in
     let f = both (not (eqb b 0xF9)) (not (eqb b 0xFD)) (e .1) in
     go (leb-true 0xF8 b (e .0)) (eqb-false b 0xF9 (off (eqb b 0xF9) (f .0))) (eqb-false b 0xFD (off (eqb b 0xFD) (f .1)))
@@ -104,17 +104,17 @@ realtime-told b small h =
     off true q = absurd (true-is-not-false (sym q))
     off false q = refl
 
-    at : (x : ℕ) → b ≡ x → Told (realtimeReport (realtimeOf x)) 1 (realtimeNumbers x) → Told (realtimeReport (realtimeOf b)) 1 (realtimeNumbers b)
-    at x e t = subst (λ (y : ℕ). Told (realtimeReport (realtimeOf y)) 1 (realtimeNumbers y)) (sym e) t
+    at : (x : ℕ) → b ≡ x → Told (realtimeReport (realtimeOf x)) n (realtimeNumbers x n) → Told (realtimeReport (realtimeOf b)) n (realtimeNumbers b n)
+    at x e t = subst (λ (y : ℕ). Told (realtimeReport (realtimeOf y)) n (realtimeNumbers y n)) (sym e) t
 
     one : 0xF8 ≤ b → (b ≡ 0xF8 → ⊥) → (b ≡ 0xF9 → ⊥) → 0xFA ≤ b
-    one l m n = omega arith
+    one l m k = omega arith
 
     two : 0xFA ≤ b → (b ≡ 0xFA → ⊥) → (b ≡ 0xFB → ⊥) → 0xFC ≤ b
-    two l m n = omega arith
+    two l m k = omega arith
 
     three : 0xFC ≤ b → (b ≡ 0xFC → ⊥) → (b ≡ 0xFD → ⊥) → 0xFE ≤ b
-    three l m n = omega arith
+    three l m k = omega arith
 
     four : 0xFE ≤ b → (b ≡ 0xFE → ⊥) → b ≡ 0xFF
     four l m = omega arith
@@ -122,7 +122,7 @@ realtime-told b small h =
     last : 0xF8 ≤ b → (b ≡ 0xF9 → ⊥) → (b ≡ 0xFD → ⊥) → (b ≡ 0xF8 → ⊥) → (b ≡ 0xFA → ⊥) → (b ≡ 0xFB → ⊥) → (b ≡ 0xFC → ⊥) → (b ≡ 0xFE → ⊥) → b ≡ 0xFF
     last l p q n8 nA nB nC nE = four (three (two (one l n8 p) nA nB) nC q) nE
 
-    go : 0xF8 ≤ b → (b ≡ 0xF9 → ⊥) → (b ≡ 0xFD → ⊥) → Told (realtimeReport (realtimeOf b)) 1 (realtimeNumbers b)
+    go : 0xF8 ≤ b → (b ≡ 0xF9 → ⊥) → (b ≡ 0xFD → ⊥) → Told (realtimeReport (realtimeOf b)) n (realtimeNumbers b n)
     go l p q =
         split (eqb b 0xF8) (λ t. at 0xF8 (eqb-true _ _ t) (record { some = refl; numbers = refl }))
         (λ n8. split (eqb b 0xFA) (λ t. at 0xFA (eqb-true _ _ t) (record { some = refl; numbers = refl }))

@@ -28,17 +28,17 @@ abbrev pub reported : ℕ → Decoder → MaybeReport → List ℕ → Walked
 reported n d o store = record { fed = record { used = n; state = d; interrupted = false; report = o }; store = store }
 
 -- a byte that reports
-stop-byte : (d : Decoder) (store : List ℕ) (b : ℕ) (bs : List ℕ) (e : Decoder) (o : MaybeReport)
-    → (record { state = e; interrupted = false; report = o }) ≡ step d b → store ≡ stored d store b → someReport o ≡ true
-    → walk d store (b ∷ bs) ≡ reported 1 e o store
+pub stop-byte : (d : Decoder) (store kept : List ℕ) (b : ℕ) (bs : List ℕ) (e : Decoder) (o : MaybeReport)
+    → (record { state = e; interrupted = false; report = o }) ≡ step d b → kept ≡ stored d store b → someReport o ≡ true
+    → walk d store (b ∷ bs) ≡ reported 1 e o kept
 unfolding walk
-stop-byte d store b bs e o p q h = rw (← p, ← q, h)
+stop-byte d store kept b bs e o p q h = rw (← p, ← q, h)
 
 pub realtime-first : (d : Decoder) (store : List ℕ) (b : ℕ) (bs : List ℕ) → 0xF8 ≤ b → someReport (realtimeReport (realtimeOf b)) ≡ true
     → walk d store (b ∷ bs) ≡ reported 1 d (realtimeReport (realtimeOf b)) store
 realtime-first d store b bs l h =
     let steps = step-by k.Realtime d store b (class-is b k.Realtime l) (record { state = d; interrupted = false; report = realtimeReport (realtimeOf b) }) store refl refl in
-    stop-byte d store b bs d (realtimeReport (realtimeOf b)) (steps .0) (steps .1) h
+    stop-byte d store store b bs d (realtimeReport (realtimeOf b)) (steps .0) (steps .1) h
 
 -- data bytes under a status with nothing pending
 module _ (d : Decoder) (store : List ℕ) (v : ℕ) (closed : d .in_sysex ≡ false) (force : d .status ≡ s.Status v) where
@@ -50,10 +50,10 @@ module _ (d : Decoder) (store : List ℕ) (v : ℕ) (closed : d .in_sysex ≡ fa
       let whole : Stepped = record { state = completed v a (d .data1); interrupted = false; report = messageReport v a 0 } in
       let same : whole ≡ collect (d .status) d a = sym (ap (λ (x : RunningStatus). collect x d a) force ∙ rw (eq-eqb (d .have) 0 free, takes) refl) in
       let steps = step-by k.Data d store a (class-is a k.Data low) whole store (same ∙ sym (eqs .0)) (sym (eqs .1)) in
-      stop-byte d store a bs (completed v a (d .data1)) (messageReport v a 0) (steps .0) (steps .1) h
+      stop-byte d store store a bs (completed v a (d .data1)) (messageReport v a 0) (steps .0) (steps .1) h
 
   -- the first of two
-  first-byte : (a : ℕ) (bs : List ℕ) → d .have ≡ 0 → dataLength v ≡ 2 → a < 0x80 → walk d store (a ∷ bs) ≡ further 1 (walk (waiting d v a) store bs)
+  pub first-byte : (a : ℕ) (bs : List ℕ) → d .have ≡ 0 → dataLength v ≡ 2 → a < 0x80 → walk d store (a ∷ bs) ≡ further 1 (walk (waiting d v a) store bs)
   first-byte a bs free takes low =
       let eqs = data-plain d store a closed in
       let same : silent (waiting d v a) ≡ collect (d .status) d a = sym (ap (λ (x : RunningStatus). collect x d a) force ∙ rw (eq-eqb (d .have) 0 free, takes) refl) in
@@ -61,14 +61,14 @@ module _ (d : Decoder) (store : List ℕ) (v : ℕ) (closed : d .in_sysex ≡ fa
       quiet-byte d (waiting d v a) store store a bs (steps .0) (steps .1)
 
   -- and the second
-  second-byte : (b : ℕ) (bs : List ℕ) → d .have ≡ 1 → b < 0x80 → someReport (messageReport v (d .data0) b) ≡ true
+  pub second-byte : (b : ℕ) (bs : List ℕ) → d .have ≡ 1 → b < 0x80 → someReport (messageReport v (d .data0) b) ≡ true
       → walk d store (b ∷ bs) ≡ reported 1 (completed v (d .data0) b) (messageReport v (d .data0) b) store
   second-byte b bs one low h =
       let eqs = data-plain d store b closed in
       let whole : Stepped = record { state = completed v (d .data0) b; interrupted = false; report = messageReport v (d .data0) b } in
       let same : whole ≡ collect (d .status) d b = sym (ap (λ (x : RunningStatus). collect x d b) force ∙ rw one refl) in
       let steps = step-by k.Data d store b (class-is b k.Data low) whole store (same ∙ sym (eqs .0)) (sym (eqs .1)) in
-      stop-byte d store b bs (completed v (d .data0) b) (messageReport v (d .data0) b) (steps .0) (steps .1) h
+      stop-byte d store store b bs (completed v (d .data0) b) (messageReport v (d .data0) b) (steps .0) (steps .1) h
 
 pub two-bytes : (d : Decoder) (store : List ℕ) (v a b : ℕ) (bs : List ℕ) → d .in_sysex ≡ false → d .status ≡ s.Status v → d .have ≡ 0 → dataLength v ≡ 2
     → a < 0x80 → b < 0x80 → someReport (messageReport v a b) ≡ true → walk d store (a ∷ b ∷ bs) ≡ reported 2 (completed v a b) (messageReport v a b) store

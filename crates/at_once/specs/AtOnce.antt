@@ -1,6 +1,6 @@
 -- Calls that are one whole message, answered at once. No promise uses this: the decoder's `walk` says what a call does.
 use mathlib.Core.Path.{_≡_}
-use mathlib.Core.Bool.{Bool, true, false, _&&_, _||_, not}
+use mathlib.Core.Bool.{Bool, true, false, _&&_, not}
 use mathlib.Core.List.{List}
 use Prim.Native.Nat.{ℕ, _+_, _*_, _<_}
 use lib.Dec.{ltb, leb, eqb}
@@ -11,7 +11,7 @@ use Rattle.wire.specs.Status.{dataLength, isChannelStatus}
 use Rattle.decoder.specs.declared.RunningStatus.the-variants as s
 use Rattle.decoder.specs.declared.Decoder.{Decoder}
 use Rattle.decoder.specs.declared.MaybeReport.the-variants as o
-use Rattle.decoder.specs.Call.{walk}
+use Rattle.decoder.specs.Call.{Walked, walk}
 use Rattle.decoder_bytes.specs.State.{encoded, statusByte}
 use Rattle.report_numbers.specs.declared.FedAnswer.{FedAnswer}
 use Rattle.report_numbers.specs.Reports.{numbersOf}
@@ -20,9 +20,13 @@ use Rattle.report_numbers.specs.Reports.{numbersOf}
 abbrev pub isRealtime : ℕ → Bool
 isRealtime b = leb 0xF8 b && (not (eqb b 0xF9) && not (eqb b 0xFD))
 
--- its numbers
-abbrev pub realtimeNumbers : ℕ → FedAnswer
-realtimeNumbers b = record { number = 0; used = 1; interrupted = 0; kind = 4; status = b; first = 0; second = 0 }
+-- its numbers, n bytes used
+abbrev pub realtimeNumbers : ℕ → ℕ → FedAnswer
+realtimeNumbers b n = record { number = 0; used = n; interrupted = 0; kind = 4; status = b; first = 0; second = 0 }
+
+-- does one lead?
+abbrev pub realtimeLeads : List ℕ → Bool
+realtimeLeads bytes = ltb 0 (length bytes) && isRealtime (getD bytes 0 0)
 
 -- a channel message's first number: a bend is one
 abbrev pub firstNumber : ℕ → ℕ → ℕ → ℕ
@@ -58,20 +62,17 @@ abbrev pub stateBehind : Decoder → ℕ → ℕ → ℕ → Decoder
 stateBehind d v a b =
     record { in_sysex = false; len = 0; status = s.Status v; have = 0; data0 = a; data1 = pick (eqb (dataLength v) 1) (d .data1) b }
 
--- is the call answered at once? Where its bytes begin with a real-time message, or outside a frame with a whole channel message
+-- is the call answered at once? Where its bytes begin, outside a frame, with a whole channel message
 abbrev pub atOnce : Decoder → List ℕ → Bool
-atOnce d bytes =
-    ltb 0 (length bytes)
-    && (isRealtime (getD bytes 0 0)
-    || (not (d .in_sysex) && ltb 0 (wholeLength (statusFor d (getD bytes 0 0)) (drop (dataAt (getD bytes 0 0)) bytes))))
+atOnce d bytes = ltb 0 (length bytes) && (not (d .in_sysex) && ltb 0 (wholeLength (statusFor d (getD bytes 0 0)) (drop (dataAt (getD bytes 0 0)) bytes)))
 
--- the decoder's call answers r, leaves a state of these bytes, and the store as it was
-pub record Answered (d : Decoder) (store bytes : List ℕ) (r : FedAnswer) (later : List ℕ) : Type 0 where
-  pub told : r ≡ numbersOf (walk d store bytes .fed .used) (walk d store bytes .fed .interrupted) (walk d store bytes .fed .report)
-  pub kept : later ≡ encoded (walk d store bytes .fed .state)
-  pub left : walk d store bytes .store ≡ store
+-- a walk in numbers: r is its answer, later are the bytes of its state, and left is its store
+pub record Numbered (w : Walked) (r : FedAnswer) (later left : List ℕ) : Type 0 where
+  pub told : r ≡ numbersOf (w .fed .used) (w .fed .interrupted) (w .fed .report)
+  pub kept : later ≡ encoded (w .fed .state)
+  pub store : left ≡ w .store
 
 -- where it is, the answer and the state are the decoder's call's, whatever the store; else nothing is used, told and written
 pub record AtOnce (d : Decoder) (bytes : List ℕ) (r : FedAnswer) (state later : List ℕ) : Type 0 where
   pub no : atOnce d bytes ≡ false → (r ≡ numbersOf 0 false o.None) × (later ≡ state)
-  pub yes : atOnce d bytes ≡ true → (0 < r .used) × ((store : List ℕ) → Answered d store bytes r later)
+  pub yes : atOnce d bytes ≡ true → (0 < r .used) × ((store : List ℕ) → Numbered (walk d store bytes) r later store)

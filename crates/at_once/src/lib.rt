@@ -5,7 +5,7 @@ ghost use Prim.Native.Nat.{_≤_, _<_};
 ghost use lib.ListN.{length};
 ghost use Rattle.decoder.specs.declared.MaybeReport.the-variants as o;
 ghost use Rattle.report_numbers.specs.Reports.{numbersOf};
-ghost use Rattle.at_once.specs.AtOnce.{isRealtime, realtimeNumbers, firstNumber, secondNumber, messageNumbers, waitingStatus, wholeLength};
+ghost use Rattle.at_once.specs.AtOnce.{isRealtime, realtimeLeads, realtimeNumbers, firstNumber, secondNumber, messageNumbers, waitingStatus, wholeLength};
 ghost use Rattle.at_once.specs.AtOnce.{statusFor, dataAt, stateBehind, AtOnce};
 use decoder::Decoder;
 use decoder::RunningStatus;
@@ -14,7 +14,7 @@ use report_numbers::FedAnswer;
 use report_numbers::REALTIME;
 
 // Is the byte a real-time message? F9 and FD are none.
-fn is_realtime(byte: u8) -> bool
+pub fn is_realtime(byte: u8) -> bool
     ensures { λ r. ⌜ r ≡ isRealtime byte ⌝ }
 {
     if byte < 0xF8 {
@@ -26,12 +26,23 @@ fn is_realtime(byte: u8) -> bool
     byte != 0xFD
 }
 
-fn realtime_answer(byte: u8) -> FedAnswer
-    ensures { λ r. ⌜ r ≡ realtimeNumbers byte ⌝ }
+// Does one lead?
+pub fn realtime_leads(bytes: &[u8]) -> bool
+    ensures { λ r. ⌜ r ≡ realtimeLeads (now (bytes .entry)) ⌝ }
+{
+    if bytes.len() == 0 {
+        return false;
+    }
+    is_realtime(bytes[0])
+}
+
+// A real-time message by its byte.
+pub fn realtime_answer(byte: u8, used: usize) -> FedAnswer
+    ensures { λ r. ⌜ r ≡ realtimeNumbers byte used ⌝ }
 {
     FedAnswer {
         number: 0,
-        used: 1,
+        used: used as u64,
         interrupted: 0,
         kind: REALTIME,
         status: byte as u64,
@@ -60,7 +71,7 @@ fn second_number(status: u8, second: u8) -> u64
 }
 
 // A channel message by its status byte and data.
-fn message_answer(status: u8, first: u8, second: u8, used: usize) -> FedAnswer
+pub fn message_answer(status: u8, first: u8, second: u8, used: usize) -> FedAnswer
     ensures { λ r. ⌜ r ≡ messageNumbers status first second used ⌝ }
 {
     FedAnswer {
@@ -158,7 +169,7 @@ fn none() -> FedAnswer
     }
 }
 
-// Answers a call whose bytes begin with a real-time message, or outside a frame with a whole channel message; uses nothing where they do not.
+// Answers a call whose bytes begin, outside a frame, with a whole channel message; uses nothing where they do not.
 pub fn answer(d: Decoder, state: &mut [u8], bytes: &[u8]) -> FedAnswer
     requires { ⌜ length (now state) ≡ 14 ⌝ }
     ensures { λ r. ⌜ AtOnce d (now (bytes .entry)) r (now (state .entry)) (now (state .exit)) ⌝ }
@@ -166,14 +177,10 @@ pub fn answer(d: Decoder, state: &mut [u8], bytes: &[u8]) -> FedAnswer
     if bytes.len() == 0 {
         return none();
     }
-    let byte = bytes[0];
-    if is_realtime(byte) {
-        decoder_bytes::put_state(d, state);
-        return realtime_answer(byte);
-    }
     if d.in_sysex {
         return none();
     }
+    let byte = bytes[0];
     let status = status_for(d, byte);
     let at = data_at(byte);
     let takes = whole_len(status, &bytes[at..]);

@@ -50,11 +50,15 @@ pub front-copied : (from to : List ℕ) (n : ℕ) → n ≤ length from → take
 front-copied from to n h = take-at (take n from) (drop n to) n (length-take-le n from h)
 
 -- what stands behind is as it was
-pub behind-copied : (from to : List ℕ) (n : ℕ) → n ≤ length from → drop (length from) (copied from to n) ≡ drop (length from) to
-behind-copied from to n h =
+pub behind-copied : (from to : List ℕ) (n j : ℕ) → n ≤ length from → n ≤ j → drop j (copied from to n) ≡ drop j to
+behind-copied from to n j h e =
     let seam : length (take n from) ≡ n = length-take-le n from h in
-    let place : n + (length from - n) ≡ length from = omega arith in
-    ap (λ (k : ℕ). drop k (copied from to n)) (sym place ∙ ap (λ (k : ℕ). k + (length from - n)) (sym seam))
-    ∙ drop-append-add (take n from) (drop n to) (length from - n)
-    ∙ drop-drop (length from - n) n to
+    let place : n + (j - n) ≡ j = omega arith in
+    ap (λ (k : ℕ). drop k (copied from to n)) (sym place ∙ ap (λ (k : ℕ). k + (j - n)) (sym seam))
+    ∙ drop-append-add (take n from) (drop n to) (j - n)
+    ∙ drop-drop (j - n) n to
     ∙ ap (λ (k : ℕ). drop k to) place
+
+-- copied further
+pub copied-further : (from to : List ℕ) (n j : ℕ) → n ≤ length from → n ≤ j → copied from (copied from to n) j ≡ copied from to j
+copied-further from to n j h e = ap (λ (l : List ℕ). take j from ++ l) (behind-copied from to n j h e)

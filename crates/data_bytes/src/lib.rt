@@ -3,7 +3,7 @@ ghost use mathlib.Core.Path.{_≡_};
 ghost use mathlib.Core.List.{_++_};
 ghost use Prim.Native.Nat.{_+_, _*_, _/_, _≤_};
 ghost use lib.ListN.{length, take, drop};
-ghost use Rattle.data_bytes.specs.Data.{dataRun, allData, word, topBits, topBitsAt};
+ghost use Rattle.data_bytes.specs.Data.{dataRun, allData, word, wordAt, putWord, topBits, topBitsAt};
 
 // Bytes in a word, and the top bits of all eight.
 const WORD: usize = 8;
@@ -141,4 +141,72 @@ pub fn copy_into(from: &[u8], to: &mut [u8])
 {
     copy_words(from, to);
     copy_rest(from, to);
+}
+
+// The eight bytes from a place on as a word: one load, in a function of its own.
+pub fn word_at(bytes: &[u8], at: usize) -> u64
+    requires { ⌜ at + 8 ≤ length (now bytes) ⌝ }
+    ensures { λ r. ⌜ r ≡ wordAt (now (bytes .entry)) at ⌝ }
+{
+    join(
+        bytes[at],
+        bytes[at + 1],
+        bytes[at + 2],
+        bytes[at + 3],
+        bytes[at + 4],
+        bytes[at + 5],
+        bytes[at + 6],
+        bytes[at + 7],
+    )
+}
+
+// Stores a word's eight bytes from a place on: one store.
+pub fn put_word(word: u64, to: &mut [u8], at: usize)
+    requires { ⌜ at + 8 ≤ length (now to) ⌝ }
+    ensures { λ _. ⌜ now (to .exit) ≡ putWord word (now (to .entry)) at ⌝ }
+{
+    to[at] = (word % 256) as u8;
+    to[at + 1] = (word / 0x100 % 256) as u8;
+    to[at + 2] = (word / 0x1_0000 % 256) as u8;
+    to[at + 3] = (word / 0x100_0000 % 256) as u8;
+    to[at + 4] = (word / 0x1_0000_0000 % 256) as u8;
+    to[at + 5] = (word / 0x100_0000_0000 % 256) as u8;
+    to[at + 6] = (word / 0x1_0000_0000_0000 % 256) as u8;
+    to[at + 7] = (word / 0x100_0000_0000_0000 % 256) as u8;
+}
+
+// Moves whole words of data bytes to the front of a buffer that has the room, until a word has another byte; answers how many bytes.
+fn move_words(from: &[u8], to: &mut [u8]) -> usize
+    requires { ⌜ length (now from) ≤ length (now to) ⌝ }
+    ensures { λ r. ⌜ (r ≤ dataRun (now (from .entry))) × (now (to .exit) ≡ take r (now (from .entry)) ++ drop r (now (to .entry))) ⌝ }
+{
+    let whole = from.len() / WORD;
+    let mut w: usize = 0;
+    while w < whole {
+        let i = w * WORD;
+        let word = word_at(from, i);
+        if word & TOPS != 0 {
+            return i;
+        }
+        put_word(word, to, i);
+        w += 1;
+    }
+    w * WORD
+}
+
+// Moves the data bytes ahead of the first other byte to the front of a buffer that has the room; answers how many.
+pub fn move_run(from: &[u8], to: &mut [u8]) -> usize
+    requires { ⌜ length (now from) ≤ length (now to) ⌝ }
+    ensures { λ r. ⌜ (r ≡ dataRun (now (from .entry))) × (now (to .exit) ≡ take r (now (from .entry)) ++ drop r (now (to .entry))) ⌝ }
+{
+    let mut i = move_words(from, to);
+    while i < from.len() {
+        let byte = from[i];
+        if 0x80 <= byte {
+            return i;
+        }
+        to[i] = byte;
+        i += 1;
+    }
+    i
 }

@@ -32,7 +32,7 @@ use Rattle.decoder.proofs.Walking.{Walking, counted}
 one-ahead : (n : ℕ) (w : Walked) → further 1 (further n w) ≡ further (suc n) w
 one-ahead n w = ap (counted w) (omega arith)
 
-more-further : (m n : ℕ) (w : Walked) → further m (further n w) ≡ further (m + n) w
+pub more-further : (m n : ℕ) (w : Walked) → further m (further n w) ≡ further (m + n) w
 more-further m n w = ap (counted w) (omega arith)
 
 -- a byte that does nothing but lead from one state and store to another
@@ -65,7 +65,7 @@ frame-byte d store b bs p l low =
 abbrev with-length : Decoder → ℕ → Decoder
 with-length d n = record { in_sysex = true; len = n; status = s.None; have = 0; data0 = d .data0; data1 = d .data1 }
 
-frame-run : (n : ℕ) (d : Decoder) (store bytes : List ℕ) → d .in_sysex ≡ true → suc n ≤ dataRun bytes → d .len + suc n ≤ limit → limit ≤ length store
+pub frame-run : (n : ℕ) (d : Decoder) (store bytes : List ℕ) → d .in_sysex ≡ true → suc n ≤ dataRun bytes → d .len + suc n ≤ limit → limit ≤ length store
     → walk d store bytes ≡ further (suc n) (walk (longerBy d (suc n)) (window store (d .len) (take (suc n) bytes)) (drop (suc n) bytes))
 frame-run n d store [] p h l room = absurd (omega (arith, run-none, h))
 frame-run zero d store (b ∷ bs) p h l room =
@@ -82,7 +82,7 @@ frame-run (suc n) d store (b ∷ bs) p h l room =
     (λ _ e. absurd (omega (arith, e, h)))
 
 -- with no status in force
-stray-byte : (d : Decoder) (store : List ℕ) (b : ℕ) (bs : List ℕ) → d .in_sysex ≡ false → d .status ≡ s.None → b < 0x80
+pub stray-byte : (d : Decoder) (store : List ℕ) (b : ℕ) (bs : List ℕ) → d .in_sysex ≡ false → d .status ≡ s.None → b < 0x80
     → walk d store (b ∷ bs) ≡ further 1 (walk d store bs)
 stray-byte d store b bs p q low =
     let eqs = data-plain d store b p in
@@ -90,7 +90,7 @@ stray-byte d store b bs p q low =
     let steps = step-by k.Data d store b (class-is b k.Data low) (silent d) store (nothing ∙ sym (eqs .0)) (sym (eqs .1)) in
     quiet-byte d d store store b bs (steps .0) (steps .1)
 
-stray-run : (n : ℕ) (d : Decoder) (store bytes : List ℕ) → d .in_sysex ≡ false → d .status ≡ s.None → n ≤ dataRun bytes
+pub stray-run : (n : ℕ) (d : Decoder) (store bytes : List ℕ) → d .in_sysex ≡ false → d .status ≡ s.None → n ≤ dataRun bytes
     → walk d store bytes ≡ further n (walk d store (drop n bytes))
 stray-run zero d store bytes p q h = ap (counted (walk d store bytes)) (sym (zero-add (walk d store bytes .fed .used)))
 stray-run (suc n) d store [] p q h = absurd (omega (arith, run-none, h))

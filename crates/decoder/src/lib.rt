@@ -365,7 +365,7 @@ impl Decoder {
     }
 
     // Takes bytes until the first that reports: a run of data bytes at once where that is the same, else one byte.
-    fn walk(self, store: &mut [u8], bytes: &[u8]) -> Fed
+    pub fn walk(self, store: &mut [u8], bytes: &[u8]) -> Fed
         requires { ⌜ limit ≤ length (now store) ⌝ }
         ensures { λ r. ⌜ Walks (walk self (now (store .entry)) (now (bytes .entry))) r (now (store .exit)) ⌝ }
     {

@@ -1,1 +1,3 @@
 pub mod StateBytes
+pub mod Words
+pub mod Reading

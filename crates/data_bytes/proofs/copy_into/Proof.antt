@@ -29,7 +29,7 @@ returns c = let a = c .before .before .before .before .before .before .before .b
     let w = c .before .before .before .before .before .before .copy-words in
     c .before .before .copy-rest .ensures
     ∙ ap (λ (l : List ℕ). from ++ drop (length from) l) (w .ensures)
-    ∙ ap (λ (l : List ℕ). from ++ l) (behind-copied from (a .to .now) n (omega arith))
+    ∙ ap (λ (l : List ℕ). from ++ l) (behind-copied from (a .to .now) n (length from) (omega arith) (omega arith))
 
 pub copy-into-spec : {M : Type 1} → statement M
 copy-into-spec = tie.close (tie.spec copy-words-requires copy-rest-requires same-length returns)

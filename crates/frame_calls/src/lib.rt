@@ -1,0 +1,126 @@
+// Calls in an open frame, by plain numbers: its data bytes are moved to the store at once, and the byte behind them ends the call.
+ghost use mathlib.Core.Path.{_≡_};
+ghost use mathlib.Core.Bool.{false};
+ghost use Prim.Native.Nat.{_+_, _-_, _≤_, min};
+ghost use lib.ListN.{length, drop};
+ghost use Rattle.decoder.specs.State.{limit};
+ghost use Rattle.decoder.specs.Call.{walk, further};
+ghost use Rattle.decoder.specs.declared.Report.the-variants as r;
+ghost use Rattle.decoder.specs.declared.MaybeReport.the-variants as o;
+ghost use Rattle.decoder_bytes.specs.Words.{openState};
+ghost use Rattle.report_numbers.specs.Reports.{numbersOf};
+ghost use Rattle.at_once.specs.AtOnce.{Numbered};
+use decoder::Decoder;
+use decoder::MAX_SYSEX_LEN;
+use decoder::RunningStatus;
+use report_numbers::FedAnswer;
+use report_numbers::NOTHING;
+use report_numbers::SYSEX;
+
+// So many bytes used, and nothing reported.
+pub fn quiet_answer(used: usize) -> FedAnswer
+    ensures { λ a. ⌜ a ≡ numbersOf used false o.None ⌝ }
+{
+    FedAnswer {
+        number: 0,
+        used: used as u64,
+        interrupted: 0,
+        kind: NOTHING,
+        status: 0,
+        first: 0,
+        second: 0,
+    }
+}
+
+// A frame of so many bytes.
+fn frame_answer(len: usize, used: usize) -> FedAnswer
+    ensures { λ a. ⌜ a ≡ numbersOf used false (o.Some (r.SysEx len)) ⌝ }
+{
+    FedAnswer {
+        number: 0,
+        used: used as u64,
+        interrupted: 0,
+        kind: SYSEX,
+        status: 0,
+        first: len as u64,
+        second: 0,
+    }
+}
+
+// Where a run of data bytes ends at the latest: where the frame has no more room, or behind the last byte.
+fn reach(at: usize, used: usize, count: usize) -> usize
+    requires { ⌜ (at ≤ limit) × (used ≤ count) ⌝ }
+    ensures { λ e. ⌜ e ≡ used + min (limit - at) (count - used) ⌝ }
+{
+    let room = MAX_SYSEX_LEN - at;
+    if count - used < room {
+        return count;
+    }
+    used + room
+}
+
+// The rest of a call, behind the used bytes, by the decoder's own walk.
+pub fn walked(
+    d: Decoder,
+    used: usize,
+    state: &mut [u8],
+    store: &mut [u8],
+    bytes: &[u8],
+) -> FedAnswer
+    requires { ⌜ (length (now state) ≡ 14) × (limit ≤ length (now store)) × (used ≤ length (now bytes)) ⌝ }
+    ensures { λ a. ⌜ Numbered (further used (walk d (now (store .entry)) (drop used (now (bytes .entry))))) a (now (state .exit)) (now (store .exit)) ⌝ }
+{
+    let fed = d.walk(store, &bytes[used..]);
+    let next = fed.state;
+    let report = fed.report;
+    decoder_bytes::put_state(next, state);
+    report_numbers::numbers(used + fed.used, fed.interrupted, report)
+}
+
+// The rest of a call, behind the used bytes, in an open frame of so many bytes. What breaks the frame off is left to the decoder's own walk.
+pub fn frame_call(
+    at: usize,
+    used: usize,
+    state: &mut [u8],
+    store: &mut [u8],
+    bytes: &[u8],
+) -> FedAnswer
+    requires { ⌜ (length (now state) ≡ 14) × (limit ≤ length (now store)) × (at ≤ limit) × (used ≤ length (now bytes)) ⌝ }
+    ensures { λ a. ⌜ Numbered (further used (walk (openState at (now (state .entry))) (now (store .entry)) (drop used (now (bytes .entry))))) a (now (state .exit)) (now (store .exit)) ⌝ }
+{
+    let end = reach(at, used, bytes.len());
+    let run = data_bytes::move_run(&bytes[used..end], &mut store[at..]);
+    let len = at + run;
+    let next = used + run;
+    if next == bytes.len() {
+        decoder_bytes::put_state(decoder_bytes::frame_of(len, state), state);
+        return quiet_answer(next);
+    }
+    let byte = bytes[next];
+    if at_once::is_realtime(byte) {
+        decoder_bytes::put_state(decoder_bytes::frame_of(len, state), state);
+        return at_once::realtime_answer(byte, next + 1);
+    }
+    if byte == 0xF7 {
+        if MAX_SYSEX_LEN <= len {
+            return walked(
+                decoder_bytes::frame_of(len, state),
+                next,
+                state,
+                store,
+                bytes,
+            );
+        }
+        store[len] = byte;
+        let closed = decoder_bytes::outside(RunningStatus::None, 0, state[12], state[13]);
+        decoder_bytes::put_state(closed, state);
+        return frame_answer(len + 1, next + 1);
+    }
+    walked(
+        decoder_bytes::frame_of(len, state),
+        next,
+        state,
+        store,
+        bytes,
+    )
+}
