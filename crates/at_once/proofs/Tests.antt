@@ -1,23 +1,18 @@
--- The tests of the code are the definitions' tests: a message is whole where its one or two data bytes are data bytes.
+-- The tests of the code are the definitions' tests: a message is whole where its two data bytes are data bytes.
 use mathlib.Core.Path.{_≡_, refl, sym, ap, subst, _∙_}
-use mathlib.Core.Bool.{Bool, true, false, not}
+use mathlib.Core.Bool.{Bool, true, false, _&&_, not}
 use mathlib.Core.List.{List}
-use Prim.Native.Nat.{ℕ, _+_, _-_, _*_, _≤_, _<_}
+use Prim.Native.Nat.{ℕ, _+_, _*_, _≤_, _<_}
 use native.Mathlib.Omega.{arith}
+use native.Mathlib.Nat.{add-zero}
 use lib.Dec.{ltb, leb, eqb}
-use lib.ListN.{length, getD}
-use borrow.Author.Tests.{lt-ltb, le-ltb, lt-leb, le-leb, eq-eqb, ne-eqb, ltb-true, ltb-false}
-use Rattle.laws.specs.Choice.{pick}
-use Rattle.laws.proofs.Tests.{split}
+use lib.ListN.{length, getD, drop, length-drop}
+use lib.Seq.{getD-drop}
+use borrow.Author.Tests.{lt-ltb, le-ltb, lt-leb, le-leb, ne-eqb, ltb-true, ltb-false, leb-true}
+use Rattle.laws.proofs.Tests.{both, split}
 use Rattle.data_bytes.specs.Data.{dataRun}
 use Rattle.data_bytes.proofs.Runs.{run-within, run-below, run-more}
-use Rattle.wire.specs.Status.{dataLength}
-use Rattle.decoder.specs.declared.Class.the-variants as k
-use Rattle.decoder.specs.declared.RunningStatus.the-variants as s
-use Rattle.decoder.specs.declared.Decoder.{Decoder}
-use Rattle.decoder_bytes.specs.State.{statusByte}
-use Rattle.decoder.proofs.SoundKept.{held-takes-data, at-most-two}
-use Rattle.at_once.specs.AtOnce.{isRealtime, firstNumber, secondNumber, waitingStatus, wholeLength, statusFor, dataAt, stateBehind}
+use Rattle.at_once.specs.AtOnce.{isRealtime, firstNumber, secondNumber, pairAt}
 
 pub below-realtime : (b : ℕ) → b < 0xF8 → false ≡ isRealtime b
 below-realtime b h = rw (lt-leb 0xF8 b h)
@@ -40,69 +35,52 @@ second-there v b h = rw (lt-ltb v 0xC0 h)
 pub second-missing : (v b : ℕ) → 0xC0 ≤ v → 0 ≡ secondNumber v b
 second-missing v b h = rw (le-ltb v 0xC0 h)
 
-pub one-pending : (d : Decoder) → (d .have ≡ 0 → ⊥) → 0 ≡ waitingStatus d
-one-pending d h = ap (λ (t : Bool). pick t (statusByte (d .status)) 0) (sym (ne-eqb (d .have) 0 h))
+-- the two data bytes
+module _ (v at : ℕ) (bytes : List ℕ) where
+  pub too-low : v < 0x80 → pairAt v at bytes ≡ false
+  too-low h = rw (lt-leb 0x80 v h)
 
-pub none-pending : (d : Decoder) → d .have ≡ 0 → statusByte (d .status) ≡ waitingStatus d
-none-pending d h = ap (λ (t : Bool). pick t (statusByte (d .status)) 0) (sym (eq-eqb (d .have) 0 h))
+  pub too-high : 0x80 ≤ v → 0xC0 ≤ v → pairAt v at bytes ≡ false
+  too-high l h = rw (le-leb 0x80 v l, le-ltb v 0xC0 h)
 
-pub no-channel-low : (v : ℕ) (bytes : List ℕ) → v < 0x80 → 0 ≡ wholeLength v bytes
-no-channel-low v bytes h = rw (lt-leb 0x80 v h)
+  module _ (l : 0x80 ≤ v) (h : v < 0xC0) where
+    short : dataRun (drop at bytes) < 2 → pairAt v at bytes ≡ false
+    short m = rw (le-leb 0x80 v l, lt-ltb v 0xC0 h, lt-leb 2 (dataRun (drop at bytes)) m)
 
-pub no-channel-high : (v : ℕ) (bytes : List ℕ) → 0xF0 ≤ v → 0 ≡ wholeLength v bytes
-no-channel-high v bytes h = rw (le-leb 0x80 v (omega arith), le-ltb v 0xF0 h)
+    pub too-few : length bytes < at + 2 → pairAt v at bytes ≡ false
+    too-few m = short (omega (arith, run-within (drop at bytes), length-drop at bytes, m))
 
-module _ (v : ℕ) (bytes : List ℕ) (l : 0x80 ≤ v) (h : v < 0xF0) where
-  pub takes-some : 0 < dataLength v
-  takes-some = held-takes-data v (l, omega arith, λ (e : v ≡ 0xF0). omega arith)
+    -- another byte where a data byte must be
+    broken-at : (i : ℕ) → i < 2 → 0x80 ≤ getD bytes (at + i) 0 → pairAt v at bytes ≡ false
+    broken-at i m high =
+        split (ltb i (dataRun (drop at bytes)))
+        (λ t. absurd (omega (arith, run-below (drop at bytes) i (ltb-true i (dataRun (drop at bytes)) t), getD-drop at bytes i 0, high)))
+        (λ t. short (omega (arith, ltb-false i (dataRun (drop at bytes)) t, m)))
 
-  short : dataRun bytes < dataLength v → 0 ≡ wholeLength v bytes
-  short m = rw (le-leb 0x80 v l, lt-ltb v 0xF0 h, lt-leb (dataLength v) (dataRun bytes) m)
+    pub first-high : 0x80 ≤ getD bytes at 0 → pairAt v at bytes ≡ false
+    first-high high = broken-at 0 (omega arith) (subst (λ (i : ℕ). 0x80 ≤ getD bytes i 0) (sym (add-zero at)) high)
 
-  pub too-few : length bytes < dataLength v → 0 ≡ wholeLength v bytes
-  too-few m = short (omega (arith, run-within bytes, m))
+    pub second-high : 0x80 ≤ getD bytes (at + 1) 0 → pairAt v at bytes ≡ false
+    second-high high = broken-at 1 (omega arith) high
 
-  -- another byte at a place that must be a data byte
-  pub broken-at : (i : ℕ) → i < dataLength v → 0x80 ≤ getD bytes i 0 → 0 ≡ wholeLength v bytes
-  broken-at i m high =
-      split (ltb i (dataRun bytes)) (λ t. absurd (omega (arith, run-below bytes i (ltb-true i (dataRun bytes) t), high)))
-      (λ t. short (omega (arith, ltb-false i (dataRun bytes) t, m)))
+    pub both-there : at + 2 ≤ length bytes → getD bytes at 0 < 0x80 → getD bytes (at + 1) 0 < 0x80 → pairAt v at bytes ≡ true
+    both-there m low low₂ = rw (le-leb 0x80 v l, lt-ltb v 0xC0 h, le-leb 2 (dataRun (drop at bytes)) long)
+      where
+        rest : List ℕ
+        rest = drop at bytes
 
-  -- all are
-  pub all-there : dataLength v ≤ length bytes → getD bytes 0 0 < 0x80 → getD bytes (dataLength v - 1) 0 < 0x80 → dataLength v ≡ wholeLength v bytes
-  all-there m low last = rw (le-leb 0x80 v l, lt-ltb v 0xF0 h, le-leb (dataLength v) (dataRun bytes) long)
-    where
-      one : 1 ≤ dataRun bytes
-      one = run-more bytes 0 (omega arith) (omega (arith, takes-some, m)) low
+        there : 2 ≤ length rest
+        there = omega (arith, length-drop at bytes, m)
 
-      two : dataLength v ≡ 2 → dataLength v ≤ dataRun bytes
-      two e =
-          let second : getD bytes 1 0 < 0x80 = subst (λ (n : ℕ). getD bytes (n - 1) 0 < 0x80) e last in
-          omega (arith, e, run-more bytes 1 one (omega (arith, e, m)) second)
+        one : 1 ≤ dataRun rest
+        one = run-more rest 0 (omega arith) (omega (arith, there)) (subst (λ (x : ℕ). x < 0x80) (sym (getD-drop at bytes 0 0 ∙ ap (λ (i : ℕ). getD bytes i 0) (add-zero at))) low)
 
-      long : dataLength v ≤ dataRun bytes
-      long =
-          split (ltb (dataLength v) 2) (λ t. omega (arith, ltb-true (dataLength v) 2 t, one))
-          (λ t. two (omega (arith, ltb-false (dataLength v) 2 t, at-most-two v)))
+        long : 2 ≤ dataRun rest
+        long = run-more rest 1 one (omega (arith, there)) (subst (λ (x : ℕ). x < 0x80) (sym (getD-drop at bytes 1 0)) low₂)
 
-pub status-waits : (d : Decoder) (b : ℕ) → b < 0x80 → waitingStatus d ≡ statusFor d b
-status-waits d b h = ap (λ (t : Bool). pick t (waitingStatus d) b) (sym (lt-ltb b 0x80 h))
-
-pub status-own : (d : Decoder) (b : ℕ) → 0x80 ≤ b → b ≡ statusFor d b
-status-own d b h = ap (λ (t : Bool). pick t (waitingStatus d) b) (sym (le-ltb b 0x80 h))
-
-pub data-first : (b : ℕ) → b < 0x80 → 0 ≡ dataAt b
-data-first b h = rw (lt-ltb b 0x80 h)
-
-pub data-second : (b : ℕ) → 0x80 ≤ b → 1 ≡ dataAt b
-data-second b h = rw (le-ltb b 0x80 h)
-
-module _ (d : Decoder) (v a b : ℕ) where
-  abbrev with-second : ℕ → Decoder
-  with-second x = record { in_sysex = false; len = 0; status = s.Status v; have = 0; data0 = a; data1 = x }
-
-  pub behind-one : dataLength v ≡ 1 → with-second (d .data1) ≡ stateBehind d v a b
-  behind-one h = ap (λ (t : Bool). with-second (pick t (d .data1) b)) (sym (eq-eqb (dataLength v) 1 h))
-
-  pub behind-two : (dataLength v ≡ 1 → ⊥) → with-second b ≡ stateBehind d v a b
-  behind-two h = ap (λ (t : Bool). with-second (pick t (d .data1) b)) (sym (ne-eqb (dataLength v) 1 h))
+  -- and what they say
+  pub pair-facts : pairAt v at bytes ≡ true → (0x80 ≤ v) × (v < 0xC0) × (2 ≤ dataRun (drop at bytes))
+  pair-facts t =
+      let p = both (leb 0x80 v) (ltb v 0xC0 && leb 2 (dataRun (drop at bytes))) t in
+      let q = both (ltb v 0xC0) (leb 2 (dataRun (drop at bytes))) (p .1) in
+      (leb-true 0x80 v (p .0), ltb-true v 0xC0 (q .0), leb-true 2 (dataRun (drop at bytes)) (q .1))

@@ -7,12 +7,11 @@ use lib.Dec.{ltb, leb, eqb}
 use lib.ListN.{length, getD, drop}
 use Rattle.laws.specs.Choice.{pick}
 use Rattle.data_bytes.specs.Data.{dataRun}
-use Rattle.wire.specs.Status.{dataLength, isChannelStatus}
 use Rattle.decoder.specs.declared.RunningStatus.the-variants as s
-use Rattle.decoder.specs.declared.Decoder.{Decoder}
 use Rattle.decoder.specs.declared.MaybeReport.the-variants as o
 use Rattle.decoder.specs.Call.{Walked, walk}
-use Rattle.decoder_bytes.specs.State.{encoded, statusByte}
+use Rattle.decoder_bytes.specs.State.{encoded}
+use Rattle.decoder_bytes.specs.Words.{outsideState, closedState}
 use Rattle.report_numbers.specs.declared.FedAnswer.{FedAnswer}
 use Rattle.report_numbers.specs.Reports.{numbersOf}
 
@@ -41,30 +40,13 @@ abbrev pub messageNumbers : ℕ → ℕ → ℕ → ℕ → FedAnswer
 messageNumbers v a b n =
     record { number = 0; used = n; interrupted = 0; kind = 1; status = v; first = firstNumber v a b; second = secondNumber v b }
 
--- the status that data bytes at the front of a call belong to; 0 where there is none, and where one is pending
-abbrev pub waitingStatus : Decoder → ℕ
-waitingStatus d = pick (eqb (d .have) 0) (statusByte (d .status)) 0
+-- do two data bytes stand at place `at`, and is v a status that takes two and tells both, 80 to BF?
+abbrev pub pairAt : ℕ → ℕ → List ℕ → Bool
+pairAt v at bytes = leb 0x80 v && (ltb v 0xC0 && leb 2 (dataRun (drop at bytes)))
 
--- how many data bytes of a channel status stand at the front, where all do; else 0
-abbrev pub wholeLength : ℕ → List ℕ → ℕ
-wholeLength v bytes = pick (isChannelStatus v && leb (dataLength v) (dataRun bytes)) (dataLength v) 0
-
--- the status of a message that begins with byte b: b itself, or the one that data belong to
-abbrev pub statusFor : Decoder → ℕ → ℕ
-statusFor d b = pick (ltb b 0x80) (waitingStatus d) b
-
--- where its data begin
-abbrev pub dataAt : ℕ → ℕ
-dataAt b = pick (ltb b 0x80) 0 1
-
--- the state behind a channel message; one with a single data byte leaves the second's value
-abbrev pub stateBehind : Decoder → ℕ → ℕ → ℕ → Decoder
-stateBehind d v a b =
-    record { in_sysex = false; len = 0; status = s.Status v; have = 0; data0 = a; data1 = pick (eqb (dataLength v) 1) (d .data1) b }
-
--- is the call answered at once? Where its bytes begin, outside a frame, with a whole channel message
-abbrev pub atOnce : Decoder → List ℕ → Bool
-atOnce d bytes = ltb 0 (length bytes) && (not (d .in_sysex) && ltb 0 (wholeLength (statusFor d (getD bytes 0 0)) (drop (dataAt (getD bytes 0 0)) bytes)))
+-- does a call with v in force and nothing pending begin with such a message? Its status byte leads, or v is its status
+abbrev pub atOnce : ℕ → List ℕ → Bool
+atOnce v bytes = ltb 0 (length bytes) && pick (ltb (getD bytes 0 0) 0x80) (pairAt v 0 bytes) (pairAt (getD bytes 0 0) 1 bytes)
 
 -- a walk in numbers: r is its answer, later are the bytes of its state, and left is its store
 pub record Numbered (w : Walked) (r : FedAnswer) (later left : List ℕ) : Type 0 where
@@ -72,7 +54,17 @@ pub record Numbered (w : Walked) (r : FedAnswer) (later left : List ℕ) : Type 
   pub kept : later ≡ encoded (w .fed .state)
   pub store : left ≡ w .store
 
--- where it is, the answer and the state are the decoder's call's, whatever the store; else nothing is used, told and written
-pub record AtOnce (d : Decoder) (bytes : List ℕ) (r : FedAnswer) (state later : List ℕ) : Type 0 where
-  pub no : atOnce d bytes ≡ false → (r ≡ numbersOf 0 false o.None) × (later ≡ state)
-  pub yes : atOnce d bytes ≡ true → (0 < r .used) × ((store : List ℕ) → Numbered (walk d store bytes) r later store)
+-- nothing used, told and written
+abbrev pub Unused : FedAnswer → List ℕ → List ℕ → Type 0
+Unused r state later = (r ≡ numbersOf 0 false o.None) × (later ≡ state)
+
+-- where the two data bytes stand there, the message's numbers, and the state behind it; else nothing
+pub record Paired (v at : ℕ) (bytes : List ℕ) (r : FedAnswer) (state later : List ℕ) : Type 0 where
+  pub no : pairAt v at bytes ≡ false → Unused r state later
+  pub told : pairAt v at bytes ≡ true → r ≡ messageNumbers v (getD bytes at 0) (getD bytes (at + 1) 0) (at + 2)
+  pub kept : pairAt v at bytes ≡ true → later ≡ encoded (outsideState (s.Status v) 0 (getD bytes at 0) (getD bytes (at + 1) 0))
+
+-- where such a message leads, the answer and the state are the decoder's call's, whatever the store; else nothing is used, told and written
+pub record AtOnce (v : ℕ) (bytes : List ℕ) (r : FedAnswer) (state later : List ℕ) : Type 0 where
+  pub no : atOnce v bytes ≡ false → Unused r state later
+  pub yes : atOnce v bytes ≡ true → (0 < r .used) × ((store : List ℕ) (a b : ℕ) → Numbered (walk (closedState v 0 a b) store bytes) r later store)

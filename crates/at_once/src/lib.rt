@@ -1,13 +1,11 @@
 // Calls that are one whole message, by plain numbers: what the decoder's call answers, had without it.
 ghost use mathlib.Core.Path.{_≡_};
 ghost use mathlib.Core.Bool.{false};
-ghost use Prim.Native.Nat.{_≤_, _<_};
+ghost use Prim.Native.Nat.{_≤_};
 ghost use lib.ListN.{length};
 ghost use Rattle.decoder.specs.declared.MaybeReport.the-variants as o;
 ghost use Rattle.report_numbers.specs.Reports.{numbersOf};
-ghost use Rattle.at_once.specs.AtOnce.{isRealtime, realtimeLeads, realtimeNumbers, firstNumber, secondNumber, messageNumbers, waitingStatus, wholeLength};
-ghost use Rattle.at_once.specs.AtOnce.{statusFor, dataAt, stateBehind, AtOnce};
-use decoder::Decoder;
+ghost use Rattle.at_once.specs.AtOnce.{isRealtime, realtimeLeads, realtimeNumbers, firstNumber, secondNumber, messageNumbers, Paired, AtOnce};
 use decoder::RunningStatus;
 use report_numbers::CHANNEL;
 use report_numbers::FedAnswer;
@@ -85,76 +83,6 @@ pub fn message_answer(status: u8, first: u8, second: u8, used: usize) -> FedAnsw
     }
 }
 
-// The status that data bytes at the front belong to; 0 where there is none, and where one data byte is pending.
-fn waiting_status(d: Decoder) -> u8
-    ensures { λ r. ⌜ r ≡ waitingStatus d ⌝ }
-{
-    let status = d.status;
-    if d.have != 0 {
-        return 0;
-    }
-    decoder_bytes::status_byte(status)
-}
-
-// How many data bytes of a channel status stand at the front, where all do; else 0.
-fn whole_len(status: u8, bytes: &[u8]) -> usize
-    ensures { λ r. ⌜ r ≡ wholeLength status (now (bytes .entry)) ⌝ }
-{
-    if status < 0x80 {
-        return 0;
-    }
-    if 0xF0 <= status {
-        return 0;
-    }
-    let takes = wire::data_len(status);
-    if bytes.len() < takes {
-        return 0;
-    }
-    if 0x80 <= bytes[0] {
-        return 0;
-    }
-    if 0x80 <= bytes[takes - 1] {
-        return 0;
-    }
-    takes
-}
-
-// The status of the message at the front, by its first byte: a status byte, or the one that the data belong to.
-fn status_for(d: Decoder, byte: u8) -> u8
-    ensures { λ r. ⌜ r ≡ statusFor d byte ⌝ }
-{
-    if byte < 0x80 {
-        return waiting_status(d);
-    }
-    byte
-}
-
-// Where its data begin.
-fn data_at(byte: u8) -> usize
-    ensures { λ r. ⌜ r ≡ dataAt byte ⌝ }
-{
-    if byte < 0x80 {
-        return 0;
-    }
-    1
-}
-
-// The state behind it.
-fn state_behind(d: Decoder, status: u8, first: u8, second: u8) -> Decoder
-    ensures { λ r. ⌜ r ≡ stateBehind d status first second ⌝ }
-{
-    let takes = wire::data_len(status);
-    let kept = d.data1;
-    Decoder {
-        in_sysex: false,
-        len: 0,
-        status: RunningStatus::Status(status),
-        have: 0,
-        data0: first,
-        data1: if takes == 1 { kept } else { second },
-    }
-}
-
 fn none() -> FedAnswer
     ensures { λ r. ⌜ r ≡ numbersOf 0 false o.None ⌝ }
 {
@@ -169,26 +97,45 @@ fn none() -> FedAnswer
     }
 }
 
-// Answers a call whose bytes begin, outside a frame, with a whole channel message; uses nothing where they do not.
-pub fn answer(d: Decoder, state: &mut [u8], bytes: &[u8]) -> FedAnswer
+// Answers with the two data bytes at a place, under a status that takes two and tells both, 80 to BF; uses nothing where they are not there.
+fn pair(status: u8, at: usize, state: &mut [u8], bytes: &[u8]) -> FedAnswer
+    requires { ⌜ (length (now state) ≡ 14) × (at ≤ 1) ⌝ }
+    ensures { λ r. ⌜ Paired status at (now (bytes .entry)) r (now (state .entry)) (now (state .exit)) ⌝ }
+{
+    if status < 0x80 {
+        return none();
+    }
+    if 0xC0 <= status {
+        return none();
+    }
+    if bytes.len() < at + 2 {
+        return none();
+    }
+    let first = bytes[at];
+    let second = bytes[at + 1];
+    if 0x80 <= first {
+        return none();
+    }
+    if 0x80 <= second {
+        return none();
+    }
+    let held = RunningStatus::Status(status);
+    decoder_bytes::put_state(decoder_bytes::outside(held, 0, first, second), state);
+    message_answer(status, first, second, at + 2)
+}
+
+// Answers a call outside a frame, with this status and nothing pending, whose bytes begin with a whole note, key pressure or controller; uses
+// nothing where they do not.
+pub fn answer(status: u8, state: &mut [u8], bytes: &[u8]) -> FedAnswer
     requires { ⌜ length (now state) ≡ 14 ⌝ }
-    ensures { λ r. ⌜ AtOnce d (now (bytes .entry)) r (now (state .entry)) (now (state .exit)) ⌝ }
+    ensures { λ r. ⌜ AtOnce status (now (bytes .entry)) r (now (state .entry)) (now (state .exit)) ⌝ }
 {
     if bytes.len() == 0 {
         return none();
     }
-    if d.in_sysex {
-        return none();
-    }
     let byte = bytes[0];
-    let status = status_for(d, byte);
-    let at = data_at(byte);
-    let takes = whole_len(status, &bytes[at..]);
-    if takes == 0 {
-        return none();
+    if byte < 0x80 {
+        return pair(status, 0, state, bytes);
     }
-    let first = bytes[at];
-    let second = bytes[at + takes - 1];
-    decoder_bytes::put_state(state_behind(d, status, first, second), state);
-    message_answer(status, first, second, at + takes)
+    pair(byte, 1, state, bytes)
 }

@@ -6,17 +6,18 @@ use Prim.Native.Nat.{ℕ, _+_, _*_, _/_, _%_, _≤_, _<_}
 use native.Mathlib.Omega.{arith}
 use lib.Dec.{leb, eqb, ltb}
 use lib.ListN.{length, getD}
-use borrow.Author.Tests.{eq-eqb, ne-eqb, le-leb, lt-leb, eqb-true, eqb-false, leb-true, leb-false}
+use borrow.Author.Tests.{eq-eqb, ne-eqb, le-leb, lt-leb, lt-ltb, le-ltb, eqb-true, eqb-false, leb-true, leb-false, ltb-true, ltb-false}
 use Rattle.laws.specs.Choice.{pick}
 use Rattle.laws.proofs.Tests.{split, true-is-not-false}
 use Rattle.decoder.specs.declared.RunningStatus.{RunningStatus}
 use Rattle.decoder.specs.declared.RunningStatus.the-variants as s
 use Rattle.decoder.specs.declared.Decoder.{Decoder}
 use Rattle.decoder.specs.State.{limit, sound}
+use Rattle.decoder.proofs.SoundKept.{held-takes-data}
 use Rattle.decoder_bytes.specs.State.{isState, stateOf, stateLength, statusOf}
 use Rattle.wire.specs.Status.{dataLength}
 use Rattle.decoder_bytes.specs.declared.Waiting.{Waiting}
-use Rattle.decoder_bytes.specs.Words.{FourBytes, frontOf, middleOf, openState, openBy, openLength, running, outsideState, closedState, known, unknown, waitingBy, waitingOf}
+use Rattle.decoder_bytes.specs.Words.{FourBytes, frontOf, middleOf, openState, openBy, openLength, running, outsideState, closedState, known, unknown, waitingBy, waitingOf, idleBy, idleStatus}
 
 -- the tests of the code, one by one
 pub no-middle : (w m : ℕ) → (m ≡ 0 → ⊥) → 0 ≡ openBy w m
@@ -48,6 +49,26 @@ module _ (w m a b : ℕ) where
   pub status-there : w ≡ 0 → (m ≡ 0 → ⊥) → m % 65_536 ≡ 256 → sound (outsideState (s.Status (m / 65_536 % 256)) (m / 16_777_216) a b) ≡ true
       → known (m / 65_536 % 256) (m / 16_777_216) ≡ waitingBy w m a b
   status-there e f g h = rw (eq-eqb w 0 e, ne-eqb m 0 f, eq-eqb (m % 65_536) 256 g, h)
+
+module _ (w m : ℕ) where
+  pub busy-frame : (w ≡ 0 → ⊥) → 256 ≡ idleBy w m
+  busy-frame h = rw (ne-eqb w 0 h)
+
+  pub idle-none : w ≡ 0 → m ≡ 0 → 0 ≡ idleBy w m
+  idle-none e f = rw (eq-eqb w 0 e, eq-eqb m 0 f)
+
+  module _ (e : w ≡ 0) (f : m ≡ 0 → ⊥) where
+    pub busy-flag : (m % 65_536 ≡ 256 → ⊥) → 256 ≡ idleBy w m
+    busy-flag h = rw (eq-eqb w 0 e, ne-eqb m 0 f, ne-eqb (m % 65_536) 256 h)
+
+    pub busy-low : m % 65_536 ≡ 256 → m / 65_536 < 0x80 → 256 ≡ idleBy w m
+    busy-low g h = rw (eq-eqb w 0 e, ne-eqb m 0 f, eq-eqb (m % 65_536) 256 g, lt-leb 0x80 (m / 65_536) h)
+
+    pub busy-high : m % 65_536 ≡ 256 → 0x80 ≤ m / 65_536 → 0xF0 ≤ m / 65_536 → 256 ≡ idleBy w m
+    busy-high g l h = rw (eq-eqb w 0 e, ne-eqb m 0 f, eq-eqb (m % 65_536) 256 g, le-leb 0x80 (m / 65_536) l, le-ltb (m / 65_536) 0xF0 h)
+
+    pub idle-there : m % 65_536 ≡ 256 → 0x80 ≤ m / 65_536 → m / 65_536 < 0xF0 → m / 65_536 ≡ idleBy w m
+    idle-there g l h = rw (eq-eqb w 0 e, ne-eqb m 0 f, eq-eqb (m % 65_536) 256 g, le-leb 0x80 (m / 65_536) l, lt-ltb (m / 65_536) 0xF0 h)
 
 -- four bytes in a number below 2 to the 32nd
 four-bytes : (a b c d : ℕ) → a < 256 → b < 256 → c < 256 → d < 256 → FourBytes a b c d (a + 256 * b + 65_536 * c + 16_777_216 * d)
@@ -152,3 +173,37 @@ module _ (l : List ℕ) (long : length l ≡ 14) (bytes : (i : ℕ) → getD l i
 
   pub waiting-told : (x : Waiting) → x ≡ waitingOf l → x .known ≡ true → Tells l (closedState (x .status) (x .have) (getD l 12 0) (getD l 13 0))
   waiting-told x e h = subst Says (sym e) (waiting-says (sym (ap (λ (y : Waiting). y .known) e) ∙ h))
+
+  -- a channel status with nothing pending is sound
+  idle-sound : (v a b : ℕ) → 0x80 ≤ v → v < 0xF0 → sound (outsideState (s.Status v) 0 a b) ≡ true
+  idle-sound v a b l h = rw (lt-ltb 0 (dataLength v) (held-takes-data v (l, omega arith, λ (q : v ≡ 0xF0). omega arith)))
+
+  abbrev Idle : ℕ → Type 0
+  Idle n = Tells l (closedState n 0 (getD l 12 0) (getD l 13 0)) × (n < 0xF0)
+
+  busy : 256 ≡ idleStatus l → idleStatus l < 256 → Idle (idleStatus l)
+  busy q k = absurd (omega (arith, q, k))
+
+  idle-says : idleStatus l < 256 → Idle (idleStatus l)
+  idle-says k =
+      let W = frontOf l in
+      let M = middleOf l in
+      split (eqb W 0)
+      (λ a. let w = eqb-true W 0 a in
+      split (eqb M 0)
+      (λ b. let m = eqb-true M 0 b in subst Idle (idle-none W M w m) (none-by w m, omega arith))
+      (λ b. let m = eqb-false M 0 b in
+      split (eqb (M % 65_536) 256)
+      (λ c. let f = eqb-true (M % 65_536) 256 c in
+      split (leb 0x80 (M / 65_536))
+      (λ d. let low = leb-true 0x80 (M / 65_536) d in
+      split (ltb (M / 65_536) 0xF0)
+      (λ e. let high = ltb-true (M / 65_536) 0xF0 e in
+      subst Idle (idle-there W M w m f low high) (status-by w (M / 65_536) 0 (omega (arith, high)) (omega (arith, high)) f (idle-sound (M / 65_536) (getD l 12 0) (getD l 13 0) low high), high))
+      (λ e. busy (busy-high W M w m f low (ltb-false (M / 65_536) 0xF0 e)) k))
+      (λ d. busy (busy-low W M w m f (leb-false 0x80 (M / 65_536) d)) k))
+      (λ c. busy (busy-flag W M w m (eqb-false (M % 65_536) 256 c)) k)))
+      (λ a. busy (busy-frame W M (eqb-false W 0 a)) k)
+
+  pub idle-told : (n : ℕ) → n ≡ idleStatus l → n < 256 → Tells l (closedState n 0 (getD l 12 0) (getD l 13 0)) × (n < 0xF0)
+  idle-told n e h = subst Idle (sym e) (idle-says (omega (arith, e, h)))

@@ -3,7 +3,7 @@ use mathlib.Core.Path.{_≡_}
 use mathlib.Core.Bool.{true, false}
 use mathlib.Core.List.{List}
 use Prim.Native.Nat.{ℕ, _+_, _*_, _/_, _%_, _<_}
-use lib.Dec.{leb, eqb}
+use lib.Dec.{ltb, leb, eqb}
 use lib.ListN.{getD, set}
 use Rattle.laws.specs.Choice.{pick}
 use Rattle.decoder.specs.State.{limit, sound}
@@ -80,3 +80,15 @@ waitingBy w m a b =
 -- by a state's bytes
 abbrev pub waitingOf : List ℕ → Waiting
 waitingOf l = waitingBy (frontOf l) (middleOf l) (getD l 12 0) (getD l 13 0)
+
+-- the channel status of a state outside a frame with nothing pending, 0 for none, by the two numbers; 256 where they say anything else
+abbrev pub idleBy : ℕ → ℕ → ℕ
+idleBy w m =
+    pick (eqb w 0)
+    (pick (eqb m 0) 0
+    (pick (eqb (m % 65_536) 256) (pick (leb 0x80 (m / 65_536)) (pick (ltb (m / 65_536) 0xF0) (m / 65_536) 256) 256) 256))
+    256
+
+-- by a state's bytes
+abbrev pub idleStatus : List ℕ → ℕ
+idleStatus l = idleBy (frontOf l) (middleOf l)

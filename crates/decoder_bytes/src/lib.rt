@@ -4,7 +4,7 @@ ghost use mathlib.Core.Path.{_≡_};
 ghost use Prim.Native.Nat.{_+_, _*_, _%_};
 ghost use lib.ListN.{length};
 ghost use Rattle.decoder_bytes.specs.State.{isState, stateOf, stateLength, statusOf, statusFlag, statusByte, encoded};
-ghost use Rattle.decoder_bytes.specs.Words.{FourBytes, putMiddle, frontOf, middleOf, openState, openLength, running, outsideState, unknown, waitingOf};
+ghost use Rattle.decoder_bytes.specs.Words.{FourBytes, putMiddle, frontOf, middleOf, openState, openLength, running, outsideState, unknown, waitingOf, idleStatus};
 use decoder::Decoder;
 use decoder::RunningStatus;
 
@@ -193,6 +193,31 @@ pub fn waiting_in(state: &[u8]) -> Waiting
         status,
         have,
     }
+}
+
+// The channel status of a state outside a frame with nothing pending, 0 for none; 256 where the bytes say anything else.
+pub fn idle_status(state: &[u8]) -> usize
+    requires { ⌜ length (now state) ≡ 14 ⌝ }
+    ensures { λ r. ⌜ r ≡ idleStatus (now (state .entry)) ⌝ }
+{
+    let middle = middle_of(state);
+    if front_of(state) != 0 {
+        return 256;
+    }
+    if middle == 0 {
+        return 0;
+    }
+    if middle % 65_536 != 256 {
+        return 256;
+    }
+    let status = middle / 65_536;
+    if status < 0x80 {
+        return 256;
+    }
+    if 0xF0 <= status {
+        return 256;
+    }
+    status
 }
 
 // 1 where there is a status.

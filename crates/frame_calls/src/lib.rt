@@ -10,6 +10,7 @@ ghost use Rattle.decoder.specs.declared.MaybeReport.the-variants as o;
 ghost use Rattle.decoder_bytes.specs.Words.{openState};
 ghost use Rattle.report_numbers.specs.Reports.{numbersOf};
 ghost use Rattle.at_once.specs.AtOnce.{Numbered};
+ghost use Rattle.frame_calls.specs.One.{OneByte};
 use decoder::Decoder;
 use decoder::MAX_SYSEX_LEN;
 use decoder::RunningStatus;
@@ -47,6 +48,21 @@ fn frame_answer(len: usize, used: usize) -> FedAnswer
     }
 }
 
+// The same answer, field by field: one that comes from a call of its own is then no reason to put every other answer to memory first.
+pub fn again(a: FedAnswer) -> FedAnswer
+    ensures { λ r. ⌜ r ≡ a ⌝ }
+{
+    FedAnswer {
+        number: a.number,
+        used: a.used,
+        interrupted: a.interrupted,
+        kind: a.kind,
+        status: a.status,
+        first: a.first,
+        second: a.second,
+    }
+}
+
 // Where a run of data bytes ends at the latest: where the frame has no more room, or behind the last byte.
 fn reach(at: usize, used: usize, count: usize) -> usize
     requires { ⌜ (at ≤ limit) × (used ≤ count) ⌝ }
@@ -74,7 +90,7 @@ pub fn walked(
     let next = fed.state;
     let report = fed.report;
     decoder_bytes::put_state(next, state);
-    report_numbers::numbers(used + fed.used, fed.interrupted, report)
+    again(report_numbers::numbers(used + fed.used, fed.interrupted, report))
 }
 
 // The rest of a call, behind the used bytes, in an open frame of so many bytes. What breaks the frame off is left to the decoder's own walk.
@@ -123,4 +139,24 @@ pub fn frame_call(
         store,
         bytes,
     )
+}
+
+// Answers a call that is one data byte, in an open frame of so many bytes that has room for it; uses nothing where it is anything else.
+pub fn one_byte(at: usize, state: &mut [u8], store: &mut [u8], bytes: &[u8]) -> FedAnswer
+    requires { ⌜ (length (now state) ≡ 14) × (limit ≤ length (now store)) ⌝ }
+    ensures { λ a. ⌜ OneByte at (now (state .entry)) (now (store .entry)) (now (bytes .entry)) a (now (state .exit)) (now (store .exit)) ⌝ }
+{
+    if bytes.len() != 1 {
+        return quiet_answer(0);
+    }
+    let byte = bytes[0];
+    if 0x80 <= byte {
+        return quiet_answer(0);
+    }
+    if MAX_SYSEX_LEN <= at {
+        return quiet_answer(0);
+    }
+    store[at] = byte;
+    decoder_bytes::put_state(decoder_bytes::frame_of(at + 1, state), state);
+    quiet_answer(1)
 }

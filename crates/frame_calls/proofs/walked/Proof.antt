@@ -29,6 +29,9 @@ add-numbers c = let a = c .before .before .before .before .before .before .befor
 numbers-requires : tie.Need-numbers-requires
 numbers-requires c κs = search needs
 
+again-requires : tie.Need-again-requires
+again-requires c κs = search needs
+
 same-length : tie.Need-same-length
 same-length c = search needs
 
@@ -36,7 +39,7 @@ same-length-2 : tie.Need-same-length-2
 same-length-2 c = search needs
 
 returns : tie.Need-returns
-returns c = let a = c .before .before .before .before .before .before .before .before .before .before .before .before .before .before .before .args in let w = c .before .before .before .before .before .before .before .before .before .walk in walked-rest (a .used) (a .store .now) (a .bytes .now) _ (w .result) (w .last .1 .0) (w .ensures) _ _ (c .numbers .ensures) (c .before .before .before .before .put-state .ensures)
+returns c = let a = (c .before .before .before .before .before .before .before .before .before .before .before .before .before .before .before .before .args) in let w = (c .before .before .before .before .before .before .before .before .before .before .walk) in walked-rest (a .used) (a .store .now) (a .bytes .now) _ (w .result) (w .last .1 .0) (w .ensures) _ _ ((c .again) .ensures ∙ (c .before .numbers) .ensures) ((c .before .before .before .before .before .put-state) .ensures)
 
 pub walked-spec : {M : Type 1} → statement M
 walked-spec =
@@ -49,6 +52,7 @@ walked-spec =
     put-state-requires
     add-numbers
     numbers-requires
+    again-requires
     same-length
     same-length-2
     returns)
