@@ -14,14 +14,16 @@ use Rattle.data_bytes.specs.Data.{dataRun}
 use Rattle.data_bytes.proofs.Runs.{run-within, run-below, run-more}
 use Rattle.at_once.specs.AtOnce.{isRealtime, firstNumber, secondNumber, pairAt}
 
-pub below-realtime : (b : ℕ) → b < 0xF8 → false ≡ isRealtime b
-below-realtime b h = rw (lt-leb 0xF8 b h)
+pub realtime-clock : (b : ℕ) → b ≡ 0xF8 → true ≡ isRealtime b
+realtime-clock b h = rw h
 
-pub undefined-f9 : (b : ℕ) → b ≡ 0xF9 → false ≡ isRealtime b
-undefined-f9 b h = rw h
+pub below-realtime : (b : ℕ) → (b ≡ 0xF8 → ⊥) → b < 0xFA → false ≡ isRealtime b
+below-realtime b n h =
+    split (ltb b 0xF8) (λ t. rw (lt-leb 0xF8 b (ltb-true b 0xF8 t)))
+    (λ t. let last : b ≡ 0xF9 = omega (arith, ltb-false b 0xF8 t, n) in rw last)
 
-pub realtime-rest : (b : ℕ) → 0xF8 ≤ b → (b ≡ 0xF9 → ⊥) → not (eqb b 0xFD) ≡ isRealtime b
-realtime-rest b l n = rw (le-leb 0xF8 b l, ne-eqb b 0xF9 n)
+pub realtime-rest : (b : ℕ) → 0xFA ≤ b → not (eqb b 0xFD) ≡ isRealtime b
+realtime-rest b l = rw (le-leb 0xF8 b (omega arith), ne-eqb b 0xF9 (λ e. omega (arith, e)))
 
 pub first-plain : (v a b : ℕ) → v < 0xE0 → a ≡ firstNumber v a b
 first-plain v a b h = rw (lt-ltb v 0xE0 h)

@@ -11,14 +11,14 @@ use report_numbers::CHANNEL;
 use report_numbers::FedAnswer;
 use report_numbers::REALTIME;
 
-// Is the byte a real-time message? F9 and FD are none.
+// Is the byte a real-time message? F9 and FD are none. The clock, which comes most often, is tested first.
 pub fn is_realtime(byte: u8) -> bool
     ensures { λ r. ⌜ r ≡ isRealtime byte ⌝ }
 {
-    if byte < 0xF8 {
-        return false;
+    if byte == 0xF8 {
+        return true;
     }
-    if byte == 0xF9 {
+    if byte < 0xFA {
         return false;
     }
     byte != 0xFD
