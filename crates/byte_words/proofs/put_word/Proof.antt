@@ -2,8 +2,8 @@
 use lib.ListN.{length-set}
 use native.Mathlib.Omega.{arith}
 use borrow.Author.Needs.{needs}
-use Rattle.data_bytes.proofs.put_word.Statement.{statement}
-use Rattle.data_bytes.proofs.put_word.Tie as tie
+use Rattle.byte_words.proofs.put_word.Statement.{statement}
+use Rattle.byte_words.proofs.put_word.Tie as tie
 
 cast-to : tie.Need-cast-to
 cast-to c = search needs

@@ -1,11 +1,11 @@
 -- `copy_words` meets its contract: before each turn the first w words are those of from, the others as they were.
-use Rattle.data_bytes.proofs.Copies.{copied, copied-eight}
+use Rattle.byte_copies.proofs.Copies.{copied, copied-eight}
 use lib.ListN.{length, set, length-set}
 use native.Mathlib.Omega.{arith}
 use Prim.Native.Nat.{ℕ, _+_, _≤_, _-_, _*_, _/_}
 use mathlib.Core.Path.{_≡_, refl, ap, _∙_}
-use Rattle.data_bytes.proofs.copy_words.Statement.{statement}
-use Rattle.data_bytes.proofs.copy_words.Tie as tie
+use Rattle.byte_copies.proofs.copy_words.Statement.{statement}
+use Rattle.byte_copies.proofs.copy_words.Tie as tie
 
 abbrev Inv-loop : tie.InvT-loop
 Inv-loop from to₀ words w₀ to w = (w ≤ words) × (words ≡ length from / 8) × (to ≡ copied from to₀ (w * 8)) × (length to ≡ length to₀)
