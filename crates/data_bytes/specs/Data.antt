@@ -1,9 +1,9 @@
 -- How far data bytes go.
 use mathlib.Core.Bool.{Bool}
 use mathlib.Core.List.{List, [], _∷_}
-use Prim.Native.Nat.{ℕ, suc, _+_, _*_, _/_, _%_}
+use Prim.Native.Nat.{ℕ, suc, _+_, _*_, _/_}
 use lib.Dec.{ltb, leb}
-use lib.ListN.{length, getD, set}
+use lib.ListN.{length, getD}
 use Rattle.laws.specs.Choice.{pick}
 
 -- how many data bytes (00 to 7F) stand ahead of the first other byte
@@ -15,13 +15,7 @@ dataRun (b ∷ bs) = pick (ltb b 0x80) (suc (dataRun bs)) 0
 abbrev pub allData : List ℕ → Bool
 allData l = leb (length l) (dataRun l)
 
--- eight bytes as one number, the first lowest
-abbrev pub word : ℕ → ℕ → ℕ → ℕ → ℕ → ℕ → ℕ → ℕ → ℕ
-word a b c d e f g h =
-    a + b * 0x100 + c * 0x1_0000 + d * 0x100_0000 + e * 0x1_0000_0000 + f * 0x100_0000_0000 + g * 0x1_0000_0000_0000
-    + h * 0x100_0000_0000_0000
-
--- their top bits, each where it stands in that number
+-- the top bits of eight bytes, each where it stands in the number that they join to
 abbrev pub topBits : ℕ → ℕ → ℕ → ℕ → ℕ → ℕ → ℕ → ℕ → ℕ
 topBits a b c d e f g h =
     a / 128 * 0x80 + b / 128 * 0x8000 + c / 128 * 0x80_0000 + d / 128 * 0x8000_0000 + e / 128 * 0x80_0000_0000
@@ -34,13 +28,3 @@ abbrev pub topBitsAt : List ℕ → ℕ → ℕ
 topBitsAt l i =
     topBits (getD l i 0) (getD l (i + 1) 0) (getD l (i + 2) 0) (getD l (i + 3) 0) (getD l (i + 4) 0) (getD l (i + 5) 0) (getD l (i + 6) 0)
     (getD l (i + 7) 0)
-
--- the eight bytes from a place on as one number
-abbrev pub wordAt : List ℕ → ℕ → ℕ
-wordAt l i = word (getD l i 0) (getD l (i + 1) 0) (getD l (i + 2) 0) (getD l (i + 3) 0) (getD l (i + 4) 0) (getD l (i + 5) 0) (getD l (i + 6) 0) (getD l (i + 7) 0)
-
--- a list with the eight bytes of a number stored from a place on
-abbrev pub putWord : ℕ → List ℕ → ℕ → List ℕ
-putWord w l i =
-    set (set (set (set (set (set (set (set l i (w % 256)) (i + 1) (w / 0x100 % 256)) (i + 2) (w / 0x1_0000 % 256)) (i + 3) (w / 0x100_0000 % 256))
-    (i + 4) (w / 0x1_0000_0000 % 256)) (i + 5) (w / 0x100_0000_0000 % 256)) (i + 6) (w / 0x1_0000_0000_0000 % 256)) (i + 7) (w / 0x100_0000_0000_0000 % 256)

@@ -48,7 +48,7 @@ pub fn after_run(state: Decoder, store: &mut [u8], run: &[u8]) -> Decoder
     if !state.in_sysex {
         return state;
     }
-    data_bytes::copy_into(run, &mut store[at..]);
+    byte_copies::copy_into(run, &mut store[at..]);
     Decoder {
         in_sysex: true,
         len: at + run.len(),

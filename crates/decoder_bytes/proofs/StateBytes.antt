@@ -10,8 +10,8 @@ use lib.Seq.{sets, sets-eq, drop-cons}
 use borrow.Author.Tests.{eqb-true, leb-true}
 use Rattle.boundary.specs.Answer.{flag}
 use Rattle.laws.proofs.Tests.{both}
-use Rattle.data_bytes.specs.Data.{word}
-use Rattle.data_bytes.proofs.Words.{digit0, digit1, digit2, digit3, digit4, digit5, digit6, digit7}
+use Rattle.byte_words.specs.Words.{word}
+use Rattle.byte_words.proofs.Words.{digit0, digit1, digit2, digit3, digit4, digit5, digit6, digit7}
 use Rattle.decoder.specs.declared.RunningStatus.{RunningStatus}
 use Rattle.decoder.specs.declared.RunningStatus.the-variants as s
 use Rattle.decoder.specs.declared.Decoder.{Decoder}

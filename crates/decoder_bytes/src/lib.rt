@@ -84,7 +84,7 @@ fn front_of(state: &[u8]) -> usize
     requires { ⌜ length (now state) ≡ 14 ⌝ }
     ensures { λ r. ⌜ r ≡ frontOf (now (state .entry)) ⌝ }
 {
-    data_bytes::word_at(state, 0) as usize
+    byte_words::word_at(state, 0) as usize
 }
 
 // The next four.
@@ -268,7 +268,7 @@ pub fn put_state(d: Decoder, state: &mut [u8])
     let front = front_word(boundary::flag_of(d.in_sysex), len);
     let top = (len / 0x100_0000_0000_0000) as u8;
     let middle = four(top, status_flag(status), status_byte(status), d.have);
-    data_bytes::put_word(front, state, 0);
+    byte_words::put_word(front, state, 0);
     put_middle(middle, state);
     state[12] = d.data0;
     state[13] = d.data1;

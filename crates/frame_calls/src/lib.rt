@@ -105,7 +105,7 @@ pub fn frame_call(
     ensures { λ a. ⌜ Numbered (further used (walk (openState at (now (state .entry))) (now (store .entry)) (drop used (now (bytes .entry))))) a (now (state .exit)) (now (store .exit)) ⌝ }
 {
     let end = reach(at, used, bytes.len());
-    let run = data_bytes::move_run(&bytes[used..end], &mut store[at..]);
+    let run = byte_copies::move_run(&bytes[used..end], &mut store[at..]);
     let len = at + run;
     let next = used + run;
     if next == bytes.len() {

@@ -108,7 +108,7 @@ fn put_frame(device: u8, code: u8, prefix: &[u8], run: &[u8], out: &mut [u8])
     put_header(device, code, out);
     put_prefix(prefix, &mut out[7..]);
     let at = 7 + prefix.len();
-    data_bytes::copy_into(run, &mut out[at..]);
+    byte_copies::copy_into(run, &mut out[at..]);
     let end = at + run.len();
     out[end] = framing::SYSEX_END;
 }

@@ -1,16 +1,15 @@
 -- A call of `dm_feed` does to the bytes what the decoder's call does to the state that they say.
 use mathlib.Core.Path.{_≡_, refl, ap, sym, subst, _∙_}
 use mathlib.Core.Bool.{true, false}
-use mathlib.Core.List.{List, [], _∷_, _++_, append-nil}
+use mathlib.Core.List.{List, _∷_}
 use Prim.Native.Nat.{ℕ, zero, suc, _≤_, _<_}
 use native.Mathlib.Omega.{arith}
 use lib.Dec.{ltb, leb, eqb}
-use lib.ListN.{length, getD, set, drop, length-set, drop-of-length-le}
-use borrow.Author.Tests.{eq-eqb, ne-eqb, le-leb, lt-leb, leb-true, leb-false, ltb-true, eqb-true}
+use lib.ListN.{length, getD, set, drop, length-set}
+use borrow.Author.Tests.{le-leb, lt-leb, leb-true, leb-false, ltb-true, eqb-true}
 use Rattle.laws.proofs.Tests.{both, split}
 use Rattle.decoder.specs.declared.Decoder.{Decoder}
 use Rattle.refusal.specs.declared.Refusal.{Refusal}
-use Rattle.refusal.specs.declared.Refusal.the-variants.{BadStore}
 use Rattle.refusal.specs.Refusal.{numberOf}
 use Rattle.refusal.specs.Outcome.{Outcome, gives, refused, refusal}
 use Rattle.decoder.specs.declared.Fed.{Fed}
@@ -38,12 +37,10 @@ use Rattle.at_once.proofs.Answers.{unused-same, used-answered, realtime-answere
 use Rattle.frame_calls.specs.One.{OneByte}
 use Rattle.frame_calls.proofs.One.{one-unused, one-used}
 use Rattle.plain_calls.specs.Plain.{Waits}
-use Rattle.boundary.specs.declared.Answer.{Answer}
-use Rattle.boundary.specs.Answer.{answerOf, Sends}
 use Rattle.report_numbers.specs.declared.FedAnswer.{FedAnswer}
 use Rattle.decoder_bytes.specs.State.{isState, stateOf, encoded}
 use Rattle.report_numbers.specs.Reports.{numbersOf}
-use Rattle.host_stream.specs.Stream.{stateWrite, refusedFeed, feedCall, fedAnswer, stateAfter, StreamFed}
+use Rattle.host_stream.specs.Stream.{refusedFeed, feedCall, fedAnswer, stateAfter, StreamFed}
 
 -- bytes that are no state
 pub no-state : (state store bytes : List ℕ) (r : FedAnswer) → isState state ≡ false → r ≡ refusedFeed 20
@@ -88,21 +85,6 @@ feed-done state store bytes f fed stateLater later r h g w i k =
     let b = fed-by o fed state (ap answered (sym g) ∙ w .answers) in
     decides state store bytes r stateLater later h
     (record { answers = k ∙ sym (b .0); keeps = i ∙ sym (b .1); leaves = w .leaves })
-
--- a state written to fourteen bytes, and what any other length gets
-pub state-sent : (d : Decoder) (bytes later : List ℕ) (a : Answer) → length bytes ≡ 14 → later ≡ encoded d → a ≡ answerOf (gives 14)
-    → Sends (stateWrite d bytes) a bytes later
-state-sent d bytes later a e l h =
-    let short : length bytes ≤ 14 = omega arith in
-    let none : drop 14 bytes ≡ [] = drop-of-length-le bytes short in
-    record {
-      answers = rw (eq-eqb (length bytes) 14 e) h;
-      leaves = rw (eq-eqb (length bytes) 14 e) (l ∙ sym (append-nil (encoded d)) ∙ ap (λ (t : List ℕ). encoded d ++ t) (sym none));
-    }
-
-pub state-refused : (d : Decoder) (bytes : List ℕ) (a : Answer) → (length bytes ≡ 14 → ⊥) → a ≡ answerOf (refusal BadStore)
-    → Sends (stateWrite d bytes) a bytes bytes
-state-refused d bytes a e h = record { answers = rw (ne-eqb (length bytes) 14 e) h; leaves = rw (ne-eqb (length bytes) 14 e) }
 
 -- a call whose state and walk are told in numbers
 pub numbered-fed : (state store bytes : List ℕ) (d : Decoder) (r : FedAnswer) (later left : List ℕ) → Tells state d → limit ≤ length store

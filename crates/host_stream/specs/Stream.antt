@@ -1,29 +1,12 @@
--- The decoder's calls at the boundary: its state as bytes, and what a call answers in plain numbers.
+-- The decoder's call at the boundary: its state as bytes, and what it answers in plain numbers.
 use mathlib.Core.Path.{_≡_}
 use mathlib.Core.List.{List, []}
 use Prim.Native.Nat.{ℕ}
-use lib.Dec.{eqb}
-use lib.ListN.{length}
 use Rattle.refusal.specs.Outcome.{Outcome, gives, refused, unless}
-use Rattle.decoder.specs.declared.Decoder.{Decoder}
-use Rattle.decoder.specs.State.{reset}
 use Rattle.decoder.specs.Call.{Walked, call, storeOf}
-use Rattle.boundary.specs.Answer.{flag}
 use Rattle.report_numbers.specs.declared.FedAnswer.{FedAnswer}
 use Rattle.decoder_bytes.specs.State.{isState, stateOf, encoded}
 use Rattle.report_numbers.specs.Reports.{numbersOf}
-
--- a state that is written to the lent bytes; 20 where they are not fourteen
-abbrev pub stateWrite : Decoder → List ℕ → Outcome (List ℕ)
-stateWrite d bytes = unless (eqb (length bytes) 14) 20 [] (gives (encoded d))
-
--- a reset takes every content of fourteen bytes
-abbrev pub resetWrite : List ℕ → Outcome (List ℕ)
-resetWrite bytes = stateWrite (reset (stateOf bytes)) bytes
-
--- is a frame open? 20 for bytes that are no state
-abbrev pub openOf : List ℕ → Outcome ℕ
-openOf bytes = unless (isState bytes) 20 [] (gives (flag (stateOf bytes .in_sysex)))
 
 -- a call on the state that the bytes say; 20 for bytes that are no state
 abbrev pub feedCall : List ℕ → List ℕ → List ℕ → Outcome Walked

@@ -8,8 +8,8 @@ use borrow.Author.Tests.{not-true, not-false}
 use Rattle.refusal.specs.Outcome.{gives}
 use mathlib.Core.Path.{ap, sym, _∙_}
 use borrow.Author.Needs.{needs}
-use Rattle.host_stream.proofs.dm_in_sysex.Statement.{statement}
-use Rattle.host_stream.proofs.dm_in_sysex.Tie as tie
+use Rattle.host_state.proofs.dm_in_sysex.Statement.{statement}
+use Rattle.host_state.proofs.dm_in_sysex.Tie as tie
 
 is-state-requires : tie.Need-is-state-requires
 is-state-requires c κs = search needs

@@ -1,15 +1,15 @@
 -- `move_run` meets its contract: byte by byte behind the words, until the run ends.
-use Rattle.data_bytes.proofs.Copies.{copied, copied-front, copied-more, copied-further, front-copied, length-copied}
+use Rattle.byte_copies.proofs.Copies.{copied, copied-front, copied-more, copied-further, front-copied, length-copied}
 use Rattle.data_bytes.proofs.Runs.{run-within, run-more, run-ends}
 use Rattle.data_bytes.specs.Data.{dataRun}
 use lib.ListN.{length, take, length-set}
 use native.Mathlib.Omega.{arith}
 use Prim.Native.Nat.{ℕ, _+_, _≤_, _-_}
 use mathlib.Core.List.{List}
 use mathlib.Core.Path.{_≡_, refl, ap, _∙_}
 use borrow.Author.Needs.{needs}
-use Rattle.data_bytes.proofs.move_run.Statement.{statement}
-use Rattle.data_bytes.proofs.move_run.Tie as tie
+use Rattle.byte_copies.proofs.move_run.Statement.{statement}
+use Rattle.byte_copies.proofs.move_run.Tie as tie
 
 abbrev Inv-loop : tie.InvT-loop
 Inv-loop from to₀ i₀ to i = (i₀ ≤ i) × (i ≤ dataRun from) × (to ≡ copied from to₀ i) × (length to ≡ length to₀) × (length from ≤ length to₀)

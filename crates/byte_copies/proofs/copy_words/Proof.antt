@@ -1,11 +1,12 @@
 -- `copy_words` meets its contract: before each turn the first w words are those of from, the others as they were.
-use Rattle.data_bytes.proofs.Copies.{copied, copied-eight}
-use lib.ListN.{length, set, length-set}
+use Rattle.byte_copies.proofs.Copies.{copied, copied-eight}
+use Rattle.byte_words.proofs.Stores.{within1, within2, within3, within4, within5, within6, within7, length8}
+use lib.ListN.{length}
 use native.Mathlib.Omega.{arith}
 use Prim.Native.Nat.{ℕ, _+_, _≤_, _-_, _*_, _/_}
 use mathlib.Core.Path.{_≡_, refl, ap, _∙_}
-use Rattle.data_bytes.proofs.copy_words.Statement.{statement}
-use Rattle.data_bytes.proofs.copy_words.Tie as tie
+use Rattle.byte_copies.proofs.copy_words.Statement.{statement}
+use Rattle.byte_copies.proofs.copy_words.Tie as tie
 
 abbrev Inv-loop : tie.InvT-loop
 Inv-loop from to₀ words w₀ to w = (w ≤ words) × (words ≡ length from / 8) × (to ≡ copied from to₀ (w * 8)) × (length to ≡ length to₀)
@@ -71,43 +72,43 @@ add-to : tie.Need-add-to Inv-loop μ-loop
 add-to c = omega arith
 
 slice-write-to-2 : tie.Need-slice-write-to-2 Inv-loop μ-loop
-slice-write-to-2 c = simp length-set (omega arith)
+slice-write-to-2 c = let l = c .before .before .before .before .before .before .before .before .before .loop in within1 (l .to) (l .w * 8) _ (l .w * 8 + 1) (omega arith)
 
 add-to-2 : tie.Need-add-to-2 Inv-loop μ-loop
 add-to-2 c = omega arith
 
 slice-write-to-3 : tie.Need-slice-write-to-3 Inv-loop μ-loop
-slice-write-to-3 c = simp length-set (omega arith)
+slice-write-to-3 c = let l = c .before .before .before .before .before .before .before .before .before .loop in within2 (l .to) (l .w * 8) _ _ (l .w * 8 + 2) (omega arith)
 
 add-to-3 : tie.Need-add-to-3 Inv-loop μ-loop
 add-to-3 c = omega arith
 
 slice-write-to-4 : tie.Need-slice-write-to-4 Inv-loop μ-loop
-slice-write-to-4 c = simp length-set (omega arith)
+slice-write-to-4 c = let l = c .before .before .before .before .before .before .before .before .before .loop in within3 (l .to) (l .w * 8) _ _ _ (l .w * 8 + 3) (omega arith)
 
 add-to-4 : tie.Need-add-to-4 Inv-loop μ-loop
 add-to-4 c = omega arith
 
 slice-write-to-5 : tie.Need-slice-write-to-5 Inv-loop μ-loop
-slice-write-to-5 c = simp length-set (omega arith)
+slice-write-to-5 c = let l = c .before .before .before .before .before .before .before .before .before .loop in within4 (l .to) (l .w * 8) _ _ _ _ (l .w * 8 + 4) (omega arith)
 
 add-to-5 : tie.Need-add-to-5 Inv-loop μ-loop
 add-to-5 c = omega arith
 
 slice-write-to-6 : tie.Need-slice-write-to-6 Inv-loop μ-loop
-slice-write-to-6 c = simp length-set (omega arith)
+slice-write-to-6 c = let l = c .before .before .before .before .before .before .before .before .before .loop in within5 (l .to) (l .w * 8) _ _ _ _ _ (l .w * 8 + 5) (omega arith)
 
 add-to-6 : tie.Need-add-to-6 Inv-loop μ-loop
 add-to-6 c = omega arith
 
 slice-write-to-7 : tie.Need-slice-write-to-7 Inv-loop μ-loop
-slice-write-to-7 c = simp length-set (omega arith)
+slice-write-to-7 c = let l = c .before .before .before .before .before .before .before .before .before .loop in within6 (l .to) (l .w * 8) _ _ _ _ _ _ (l .w * 8 + 6) (omega arith)
 
 add-to-7 : tie.Need-add-to-7 Inv-loop μ-loop
 add-to-7 c = omega arith
 
 slice-write-to-8 : tie.Need-slice-write-to-8 Inv-loop μ-loop
-slice-write-to-8 c = simp length-set (omega arith)
+slice-write-to-8 c = let l = c .before .before .before .before .before .before .before .before .before .loop in within7 (l .to) (l .w * 8) _ _ _ _ _ _ _ (l .w * 8 + 7) (omega arith)
 
 add-w : tie.Need-add-w Inv-loop μ-loop
 add-w c = omega arith
@@ -118,7 +119,7 @@ loop-less c = omega arith
 loop-again : tie.Need-loop-again Inv-loop μ-loop
 loop-again c = let a = c .before .before .before .before .before .before .before .before .before .before .args in
     let l = c .before .before .before .before .before .before .before .before .before .loop in
-    (omega arith, l .inv .1, copied-eight (a .from .now) (a .to .now) (l .to) (l .w * 8) ((l .w + 1) * 8) (omega arith) (omega arith) (c .before .before .before .before .before .before .before .before .before .before .pre) (l .inv .2), simp length-set (l .inv .3))
+    (omega arith, l .inv .1, copied-eight (a .from .now) (a .to .now) (l .to) (l .w * 8) ((l .w + 1) * 8) (omega arith) (omega arith) (c .before .before .before .before .before .before .before .before .before .before .pre) (l .inv .2), length8 (l .to) (l .w * 8) _ _ _ _ _ _ _ _ ∙ l .inv .3)
 
 same-length : tie.Need-same-length Inv-loop μ-loop
 same-length c = c .before .loop .inv .3

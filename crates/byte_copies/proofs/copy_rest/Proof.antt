@@ -1,12 +1,12 @@
 -- `copy_rest` meets its contract: before each turn i bytes more behind the words are those of from.
-use Rattle.data_bytes.proofs.Copies.{copied, copied-front, copied-more, copied-all}
+use Rattle.byte_copies.proofs.Copies.{copied, copied-front, copied-more, copied-all}
 use lib.ListN.{length, set, length-set}
 use native.Mathlib.Omega.{arith}
 use native.Mathlib.Nat.{add-zero}
 use Prim.Native.Nat.{ℕ, _+_, _≤_, _-_, _*_, _/_, _%_}
 use mathlib.Core.Path.{_≡_, refl, ap, sym, _∙_}
-use Rattle.data_bytes.proofs.copy_rest.Statement.{statement}
-use Rattle.data_bytes.proofs.copy_rest.Tie as tie
+use Rattle.byte_copies.proofs.copy_rest.Statement.{statement}
+use Rattle.byte_copies.proofs.copy_rest.Tie as tie
 
 abbrev Inv-loop : tie.InvT-loop
 Inv-loop from to₀ at rest i₀ to i = (i ≤ rest) × (at ≡ length from / 8 * 8) × (rest ≡ length from % 8) × (to ≡ copied from to₀ (at + i)) × (length to ≡ length to₀)

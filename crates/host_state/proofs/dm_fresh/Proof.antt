@@ -1,11 +1,11 @@
 -- `dm_fresh` meets its contract: the length first, then the state's bytes.
-use Rattle.host_stream.proofs.Feeding.{state-sent, state-refused}
+use Rattle.host_state.proofs.Keeping.{state-sent, state-refused}
 use Rattle.decoder_bytes.specs.State.{encoded}
 use Rattle.decoder.specs.State.{fresh}
 use mathlib.Core.Path.{ap, _∙_}
 use borrow.Author.Needs.{needs}
-use Rattle.host_stream.proofs.dm_fresh.Statement.{statement}
-use Rattle.host_stream.proofs.dm_fresh.Tie as tie
+use Rattle.host_state.proofs.dm_fresh.Statement.{statement}
+use Rattle.host_state.proofs.dm_fresh.Tie as tie
 
 refused-requires : tie.Need-refused-requires
 refused-requires c κs = search needs

@@ -1,13 +1,14 @@
 -- `move_words` meets its contract: before each turn the first w words are those of from, and belong to the run.
-use Rattle.data_bytes.proofs.Copies.{copied, copied-eight}
-use Rattle.data_bytes.proofs.Words.{word-more, word-stored, no-tops}
+use Rattle.byte_copies.proofs.Copies.{copied, copied-eight}
+use Rattle.byte_words.proofs.Words.{word-stored}
+use Rattle.data_bytes.proofs.Words.{word-more, no-tops}
 use Rattle.data_bytes.specs.Data.{dataRun}
 use lib.ListN.{length, getD}
 use native.Mathlib.Omega.{arith}
 use Prim.Native.Nat.{ℕ, _+_, _≤_, _<_, _-_, _*_, _/_}
 use mathlib.Core.Path.{_≡_, refl, _∙_}
-use Rattle.data_bytes.proofs.move_words.Statement.{statement}
-use Rattle.data_bytes.proofs.move_words.Tie as tie
+use Rattle.byte_copies.proofs.move_words.Statement.{statement}
+use Rattle.byte_copies.proofs.move_words.Tie as tie
 
 abbrev Inv-loop : tie.InvT-loop
 Inv-loop from to₀ whole w₀ to w = (w ≤ whole) × (whole ≡ length from / 8) × (w * 8 ≤ dataRun from) × (to ≡ copied from to₀ (w * 8)) × (length to ≡ length to₀)

@@ -1,7 +1,7 @@
 -- `dm_capacity` meets its contract: the code's constant is the limit.
 use Rattle.decoder.proofs.Limit.{limit-is}
-use Rattle.host_stream.proofs.dm_capacity.Statement.{statement}
-use Rattle.host_stream.proofs.dm_capacity.Tie as tie
+use Rattle.host_state.proofs.dm_capacity.Statement.{statement}
+use Rattle.host_state.proofs.dm_capacity.Tie as tie
 
 returns : tie.Need-returns
 returns c = rw limit-is

@@ -1,0 +1,98 @@
+// Copies of bytes, eight at a time: all of them, or as far as they are data bytes.
+ghost use mathlib.Core.Path.{_≡_};
+ghost use mathlib.Core.List.{_++_};
+ghost use Prim.Native.Nat.{_*_, _/_, _≤_};
+ghost use lib.ListN.{length, take, drop};
+ghost use Rattle.data_bytes.specs.Data.{dataRun};
+use byte_words::WORD;
+use byte_words::put_word;
+use byte_words::word_at;
+use data_bytes::TOPS;
+
+// Copies the whole words: eight bytes are read ahead of the first store, so that they are one load and one store.
+fn copy_words(from: &[u8], to: &mut [u8])
+    requires { ⌜ length (now from) ≤ length (now to) ⌝ }
+    ensures { λ _. ⌜ now (to .exit) ≡ take (length (now (from .entry)) / 8 * 8) (now (from .entry)) ++ drop (length (now (from .entry)) / 8 * 8) (now (to .entry)) ⌝ }
+{
+    let words = from.len() / WORD;
+    let mut w: usize = 0;
+    while w < words {
+        let i = w * WORD;
+        let a = from[i];
+        let b = from[i + 1];
+        let c = from[i + 2];
+        let d = from[i + 3];
+        let e = from[i + 4];
+        let f = from[i + 5];
+        let g = from[i + 6];
+        let h = from[i + 7];
+        to[i] = a;
+        to[i + 1] = b;
+        to[i + 2] = c;
+        to[i + 3] = d;
+        to[i + 4] = e;
+        to[i + 5] = f;
+        to[i + 6] = g;
+        to[i + 7] = h;
+        w += 1;
+    }
+}
+
+// Copies what stands behind the whole words, which are copied.
+fn copy_rest(from: &[u8], to: &mut [u8])
+    requires { ⌜ (length (now from) ≤ length (now to)) × (take (length (now from) / 8 * 8) (now to) ≡ take (length (now from) / 8 * 8) (now from)) ⌝ }
+    ensures { λ _. ⌜ now (to .exit) ≡ now (from .entry) ++ drop (length (now (from .entry))) (now (to .entry)) ⌝ }
+{
+    let at = from.len() / WORD * WORD;
+    let rest = from.len() % WORD;
+    let mut i: usize = 0;
+    while i < rest {
+        to[at + i] = from[at + i];
+        i += 1;
+    }
+}
+
+// Copies bytes to the front of a buffer that has the room.
+pub fn copy_into(from: &[u8], to: &mut [u8])
+    requires { ⌜ length (now from) ≤ length (now to) ⌝ }
+    ensures { λ _. ⌜ now (to .exit) ≡ now (from .entry) ++ drop (length (now (from .entry))) (now (to .entry)) ⌝ }
+{
+    copy_words(from, to);
+    copy_rest(from, to);
+}
+
+// Moves whole words of data bytes to the front of a buffer that has the room, until a word has another byte; answers how many bytes.
+fn move_words(from: &[u8], to: &mut [u8]) -> usize
+    requires { ⌜ length (now from) ≤ length (now to) ⌝ }
+    ensures { λ r. ⌜ (r ≤ dataRun (now (from .entry))) × (now (to .exit) ≡ take r (now (from .entry)) ++ drop r (now (to .entry))) ⌝ }
+{
+    let whole = from.len() / WORD;
+    let mut w: usize = 0;
+    while w < whole {
+        let i = w * WORD;
+        let word = word_at(from, i);
+        if word & TOPS != 0 {
+            return i;
+        }
+        put_word(word, to, i);
+        w += 1;
+    }
+    w * WORD
+}
+
+// Moves the data bytes ahead of the first other byte to the front of a buffer that has the room; answers how many.
+pub fn move_run(from: &[u8], to: &mut [u8]) -> usize
+    requires { ⌜ length (now from) ≤ length (now to) ⌝ }
+    ensures { λ r. ⌜ (r ≡ dataRun (now (from .entry))) × (now (to .exit) ≡ take r (now (from .entry)) ++ drop r (now (to .entry))) ⌝ }
+{
+    let mut i = move_words(from, to);
+    while i < from.len() {
+        let byte = from[i];
+        if 0x80 <= byte {
+            return i;
+        }
+        to[i] = byte;
+        i += 1;
+    }
+    i
+}
