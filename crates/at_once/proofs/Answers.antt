@@ -1,6 +1,6 @@
 -- A call that begins with a whole message is answered from the message's own bytes, because the decoder would stop behind it with that report.
 use mathlib.Core.Path.{_≡_, refl, sym, ap, subst, _∙_}
-use mathlib.Core.Bool.{Bool, true, false}
+use mathlib.Core.Bool.{true, false}
 use mathlib.Core.List.{List, [], _∷_}
 use Prim.Native.Nat.{ℕ, suc, _+_, _≤_, _<_}
 use native.Mathlib.Omega.{arith}
@@ -10,7 +10,6 @@ use lib.ListN.{length, getD, drop, length-drop}
 use lib.Seq.{getD-drop, drop-cons}
 use borrow.Author.Tests.{lt-ltb, le-ltb, ltb-true, ltb-false, leb-true, ne-eqb}
 use Rattle.laws.proofs.Tests.{both, split, true-is-not-false}
-use Rattle.data_bytes.specs.Data.{dataRun}
 use Rattle.data_bytes.proofs.Runs.{run-within, run-below}
 use Rattle.wire.specs.Status.{dataLength}
 use Rattle.wire.proofs.DataLength.{two-low, two-high}

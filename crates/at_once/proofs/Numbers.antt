@@ -7,13 +7,9 @@ use lib.Dec.{ltb, leb, eqb}
 use borrow.Author.Tests.{lt-ltb, le-ltb, eqb-true, eqb-false, leb-true}
 use Rattle.laws.specs.Choice.{pick}
 use Rattle.laws.proofs.Tests.{both, split, true-is-not-false}
-use Rattle.real_time.specs.declared.Realtime.{Realtime}
 use Rattle.real_time.specs.declared.Realtime.the-variants as t
-use Rattle.real_time.specs.declared.MaybeRealtime.{MaybeRealtime}
-use Rattle.real_time.specs.declared.MaybeRealtime.the-variants as o
-use Rattle.real_time.specs.Realtime.{realtimeOf, realtimeByte}
+use Rattle.real_time.specs.Realtime.{realtimeOf}
 use Rattle.decoder.specs.declared.MaybeReport.{MaybeReport}
-use Rattle.decoder.specs.declared.MaybeReport.the-variants as m
 use Rattle.decoder.specs.Step.{messageReport, realtimeReport}
 use Rattle.decoder.specs.Call.{someReport}
 use Rattle.report_numbers.specs.declared.FedAnswer.{FedAnswer}

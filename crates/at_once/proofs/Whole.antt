@@ -1,14 +1,11 @@
 -- A call whose bytes begin with a whole message stops behind it, because no byte ahead of the last reports.
 use mathlib.Core.Path.{_≡_, refl, sym, ap, _∙_}
 use mathlib.Core.Bool.{Bool, true, false}
-use mathlib.Core.List.{List, [], _∷_}
-use Prim.Native.Nat.{ℕ, suc, _+_, _≤_, _<_}
+use mathlib.Core.List.{List, _∷_}
+use Prim.Native.Nat.{ℕ, _≤_, _<_}
 use native.Mathlib.Omega.{arith}
-use lib.Dec.{leb, eqb}
-use borrow.Author.Tests.{le-leb, lt-leb, eq-eqb, ne-eqb}
-use Rattle.laws.specs.Choice.{pick}
+use borrow.Author.Tests.{eq-eqb}
 use Rattle.wire.specs.Status.{dataLength}
-use Rattle.wire.proofs.DataLength.{two-low, one-middle, two-high}
 use Rattle.real_time.specs.Realtime.{realtimeOf}
 use Rattle.decoder.specs.declared.RunningStatus.{RunningStatus}
 use Rattle.decoder.specs.declared.RunningStatus.the-variants as s
@@ -17,8 +14,8 @@ use Rattle.decoder.specs.declared.Class.the-variants as k
 use Rattle.decoder.specs.declared.MaybeReport.{MaybeReport}
 use Rattle.decoder.specs.declared.MaybeReport.the-variants as m
 use Rattle.decoder.specs.declared.Stepped.{Stepped}
-use Rattle.decoder.specs.Step.{step, stored, stepIn, silent, holding, waiting, completed, collect, messageReport, realtimeReport, statusByte}
-use Rattle.decoder.specs.Call.{Walked, walk, someReport, reports, stopped, further}
+use Rattle.decoder.specs.Step.{step, stored, stepIn, silent, holding, waiting, completed, collect, messageReport, realtimeReport}
+use Rattle.decoder.specs.Call.{Walked, walk, someReport, reports, further}
 use Rattle.decoder.proofs.Classes.{class-is}
 use Rattle.decoder.proofs.Steps.{data-plain, step-by}
 use Rattle.decoder.proofs.Runs.{quiet-byte}

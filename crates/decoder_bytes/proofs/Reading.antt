@@ -1,13 +1,12 @@
 -- Two numbers tell a state that a call takes, because the bytes that they are put together of can be told from them.
 use mathlib.Core.Path.{_≡_, refl, ap, ap₂, sym, subst, _∙_}
-use mathlib.Core.Bool.{Bool, true, false, _&&_, _||_}
+use mathlib.Core.Bool.{Bool, true, false}
 use mathlib.Core.List.{List}
 use Prim.Native.Nat.{ℕ, _+_, _*_, _/_, _%_, _≤_, _<_}
 use native.Mathlib.Omega.{arith}
 use lib.Dec.{leb, eqb, ltb}
 use lib.ListN.{length, getD}
 use borrow.Author.Tests.{eq-eqb, ne-eqb, le-leb, lt-leb, lt-ltb, le-ltb, eqb-true, eqb-false, leb-true, leb-false, ltb-true, ltb-false}
-use Rattle.laws.specs.Choice.{pick}
 use Rattle.laws.proofs.Tests.{split, true-is-not-false}
 use Rattle.decoder.specs.declared.RunningStatus.{RunningStatus}
 use Rattle.decoder.specs.declared.RunningStatus.the-variants as s

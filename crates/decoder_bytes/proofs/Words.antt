@@ -1,8 +1,8 @@
 -- The bytes of two numbers are the state's, because each number is put together of bytes that keep their places.
-use mathlib.Core.Path.{_≡_, refl, ap, sym, _∙_}
+use mathlib.Core.Path.{_≡_}
 use mathlib.Core.Bool.{Bool, true, false}
 use mathlib.Core.List.{List, [], _∷_}
-use Prim.Native.Nat.{ℕ, _+_, _*_, _/_, _%_, _^_, _≤_, _<_}
+use Prim.Native.Nat.{ℕ, _+_, _*_, _/_, _%_, _^_, _<_}
 use native.Mathlib.Omega.{arith}
 use Rattle.boundary.specs.Answer.{flag}
 use Rattle.decoder.specs.declared.Decoder.{Decoder}

@@ -1,6 +1,6 @@
 -- A call in an open frame goes on behind its run of data bytes, because the decoder stores them one after another and reports nothing.
 use mathlib.Core.Path.{_≡_, refl, sym, ap, ap₂, subst, _∙_}
-use mathlib.Core.Bool.{Bool, true, false}
+use mathlib.Core.Bool.{true, false}
 use mathlib.Core.List.{List, [], _∷_, _++_}
 use Prim.Native.Nat.{ℕ, zero, suc, _+_, _-_, _^_, _≤_, _<_, min}
 use lib.Dec.{leb}
@@ -8,7 +8,7 @@ use borrow.Author.Tests.{leb-true}
 use borrow.Rule.Slice.PartMut.{putMid}
 use native.Mathlib.Nat.{add-zero, zero-add}
 use native.Mathlib.Omega.{arith}
-use lib.ListN.{length, take, drop, set, getD, length-take, length-drop, drop-of-length-le}
+use lib.ListN.{length, take, drop, set, getD, length-drop, drop-of-length-le}
 use lib.Seq.{take-all, take-take, length-take-le, drop-drop, drop-cons}
 use Rattle.laws.specs.Window.{window}
 use Rattle.laws.proofs.Tests.{by-test, both}
@@ -21,11 +21,10 @@ use Rattle.decoder.specs.declared.Class.the-variants as k
 use Rattle.decoder.specs.declared.Report.the-variants as r
 use Rattle.decoder.specs.declared.MaybeReport.{MaybeReport}
 use Rattle.decoder.specs.declared.MaybeReport.the-variants as o
-use Rattle.decoder.specs.declared.Stepped.{Stepped}
 use Rattle.decoder.specs.State.{limit, cleared}
 use Rattle.decoder.specs.Step.{step, stored, reporting, realtimeReport}
 use Rattle.decoder.specs.declared.Fed.{Fed}
-use Rattle.decoder.specs.Call.{Walked, Walks, walk, ended, stopped, further, reports}
+use Rattle.decoder.specs.Call.{Walked, Walks, walk, further, reports}
 use Rattle.decoder.proofs.Classes.{class-is}
 use Rattle.decoder.proofs.Steps.{end-fits, step-by}
 use Rattle.decoder.proofs.Runs.{frame-run, more-further}

@@ -1,10 +1,9 @@
 -- A call of one data byte in an open frame stores it behind the others, because the decoder does so and reports nothing.
 use mathlib.Core.Path.{_≡_, refl, sym, ap, _∙_}
-use mathlib.Core.Bool.{true, false, _&&_}
+use mathlib.Core.Bool.{true, false}
 use mathlib.Core.List.{List, [], _∷_}
 use Prim.Native.Nat.{ℕ, _+_, _≤_, _<_}
 use native.Mathlib.Omega.{arith}
-use lib.Dec.{ltb, eqb}
 use lib.ListN.{length, getD, set}
 use borrow.Author.Tests.{lt-ltb, le-ltb, eq-eqb, ne-eqb}
 use Rattle.laws.proofs.Tests.{split, true-is-not-false}
@@ -12,7 +11,7 @@ use Rattle.decoder.specs.declared.Class.the-variants as k
 use Rattle.decoder.specs.declared.MaybeReport.the-variants as o
 use Rattle.decoder.specs.State.{limit}
 use Rattle.decoder.specs.Step.{silent}
-use Rattle.decoder.specs.Call.{walk, further}
+use Rattle.decoder.specs.Call.{walk}
 use Rattle.decoder.proofs.Classes.{class-is}
 use Rattle.decoder.proofs.Steps.{data-fits, step-by}
 use Rattle.decoder.proofs.Runs.{quiet-byte}

@@ -2,14 +2,14 @@
 use mathlib.Core.Path.{_≡_, refl, sym, ap, ap₂, subst, _∙_}
 use mathlib.Core.Bool.{Bool, true, false, _&&_, _||_}
 use mathlib.Core.List.{List, [], _∷_}
-use Prim.Native.Nat.{ℕ, zero, suc, _+_, _-_, _≤_, _<_}
+use Prim.Native.Nat.{ℕ, suc, _+_, _-_, _≤_, _<_}
 use native.Mathlib.Nat.{add-zero, zero-add}
 use native.Mathlib.Numerals.{add-one}
 use native.Mathlib.Omega.{arith}
 use lib.Dec.{ltb, leb, eqb}
-use lib.ListN.{length, take, drop, set, getD, drop-of-length-le}
+use lib.ListN.{length, drop, getD, drop-of-length-le}
 use lib.Seq.{drop-cons}
-use borrow.Author.Tests.{lt-ltb, le-ltb, le-leb, lt-leb, eq-eqb, ne-eqb, ltb-true, ltb-false, leb-true, eqb-true, eqb-false}
+use borrow.Author.Tests.{lt-ltb, le-ltb, le-leb, eq-eqb, ne-eqb, ltb-true, ltb-false, leb-true, eqb-true, eqb-false}
 use Rattle.laws.specs.Choice.{pick}
 use Rattle.laws.proofs.Tests.{both, split, true-is-not-false}
 use Rattle.wire.specs.Status.{dataLength}
@@ -22,10 +22,10 @@ use Rattle.decoder.specs.declared.Class.the-variants as k
 use Rattle.decoder.specs.declared.MaybeReport.{MaybeReport}
 use Rattle.decoder.specs.declared.MaybeReport.the-variants as o
 use Rattle.decoder.specs.declared.Stepped.{Stepped}
-use Rattle.decoder.specs.State.{limit, sound, waitsSoundly}
-use Rattle.decoder.specs.Step.{step, stored, completed, collect, messageReport, realtimeReport}
+use Rattle.decoder.specs.State.{sound, waitsSoundly}
+use Rattle.decoder.specs.Step.{step, completed, collect, messageReport, realtimeReport}
 use Rattle.real_time.specs.Realtime.{realtimeOf}
-use Rattle.decoder.specs.Call.{Walked, walk, reports, stopped, further, someReport}
+use Rattle.decoder.specs.Call.{Walked, walk, further, someReport}
 use Rattle.decoder.proofs.Classes.{class-is}
 use Rattle.decoder.proofs.Steps.{data-plain, step-by}
 use Rattle.decoder.proofs.SoundKept.{held-takes-data, takes-data-held, at-most-two}

@@ -1,9 +1,8 @@
 -- `realtime_leads` meets its contract.
-use lib.Dec.{ltb}
-use lib.ListN.{length, getD}
+use lib.ListN.{length}
 use borrow.Author.Tests.{lt-ltb}
 use mathlib.Core.Bool.{Bool, _&&_}
-use mathlib.Core.Path.{ap₂, sym, _∙_}
+use mathlib.Core.Path.{ap₂, sym}
 use native.Mathlib.Omega.{arith}
 use borrow.Author.Needs.{needs}
 use Rattle.at_once.proofs.realtime_leads.Statement.{statement}

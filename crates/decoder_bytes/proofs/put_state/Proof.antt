@@ -6,7 +6,7 @@ use lib.ListN.{set, length-set}
 use native.Mathlib.Omega.{arith}
 use Prim.Native.Nat.{ℕ, _+_, _*_, _%_, _^_, _<_}
 use mathlib.Core.List.{List}
-use mathlib.Core.Path.{_≡_, refl, ap, _∙_}
+use mathlib.Core.Path.{refl, ap, _∙_}
 use borrow.Author.Needs.{needs}
 use Rattle.decoder_bytes.proofs.put_state.Statement.{statement}
 use Rattle.decoder_bytes.proofs.put_state.Tie as tie

@@ -1,7 +1,5 @@
 -- `walked` meets its contract.
-use mathlib.Core.Path.{_≡_, refl, sym, ap, _∙_}
-use Prim.Native.Nat.{ℕ, _+_, _≤_}
-use lib.ListN.{length}
+use mathlib.Core.Path.{_∙_}
 use native.Mathlib.Omega.{arith}
 use Rattle.frame_calls.proofs.Framed.{walked-within, walked-rest}
 use borrow.Author.Needs.{needs}

@@ -1,7 +1,6 @@
 -- `frame_at` meets its contract, test by test.
 use Rattle.host_stream.proofs.Feeding.{at-open, at-start, at-none}
 use mathlib.Core.Path.{sym, _∙_}
-use borrow.Author.Tests.{not-true}
 use native.Mathlib.Omega.{arith}
 use borrow.Author.Needs.{needs}
 use Rattle.host_stream.proofs.frame_at.Statement.{statement}

@@ -1,7 +1,6 @@
 -- `plain_feed` meets its contract: both calls are the same.
 use Rattle.host_stream.proofs.Feeding.{same-call, same-waits}
 use mathlib.Core.Path.{sym, refl}
-use native.Mathlib.Omega.{arith}
 use borrow.Author.Needs.{needs}
 use Rattle.host_stream.proofs.plain_feed.Statement.{statement}
 use Rattle.host_stream.proofs.plain_feed.Tie as tie

@@ -1,7 +1,7 @@
 -- `told_feed` meets its contract: a frame goes on, by one byte or by its run, or there is none.
 use Rattle.host_stream.proofs.Feeding.{one-done, frame-ready, frame-done}
 use lib.ListN.{length}
-use mathlib.Core.Path.{refl, sym, ap, subst, _∙_}
+use mathlib.Core.Path.{ap}
 use native.Mathlib.Omega.{arith}
 use borrow.Author.Needs.{needs}
 use Rattle.host_stream.proofs.told_feed.Statement.{statement}

@@ -1,6 +1,5 @@
 -- `behind` meets its contract, test by test.
 use borrow.Author.Tests.{le-ltb, lt-ltb, eq-eqb, ne-eqb}
-use native.Mathlib.Omega.{arith}
 use Rattle.plain_calls.proofs.behind.Statement.{statement}
 use Rattle.plain_calls.proofs.behind.Tie as tie
 
