@@ -101,17 +101,16 @@ pub fn open_len(state: &[u8]) -> usize
     ensures { λ r. ⌜ r ≡ openLength (now (state .entry)) ⌝ }
 {
     let front = front_of(state);
-    let len = front / 256;
     if middle_of(state) != 0 {
         return 0;
     }
     if front % 256 != 1 {
         return 0;
     }
-    if decoder::MAX_SYSEX_LEN < len {
+    if 256 * decoder::MAX_SYSEX_LEN + 1 < front {
         return 0;
     }
-    len
+    front / 256
 }
 
 // The state of an open frame of so many bytes, with the data bytes as they stand.

@@ -20,6 +20,12 @@ returns c = no-middle (c .before .before .front-of .result) (c .before .middle-o
 returns-2 : tie.Need-returns-2
 returns-2 c = no-flag (c .before .before .before .front-of .result) (c .before .before .middle-of .result) (c .before .if1 .left) (c .if2 .taken) ∙ ap₂ openBy (c .before .before .before .front-of .ensures) (c .before .before .middle-of .ensures)
 
+mul-if3 : tie.Need-mul-if3
+mul-if3 c = search needs
+
+add-if3 : tie.Need-add-if3
+add-if3 c = search needs
+
 returns-3 : tie.Need-returns-3
 returns-3 c = too-long (c .before .before .before .before .front-of .result) (c .before .before .before .middle-of .result) (c .before .before .if1 .left) (c .before .if2 .left) (omega (arith, limit-is)) ∙ ap₂ openBy (c .before .before .before .before .front-of .ensures) (c .before .before .before .middle-of .ensures)
 
@@ -28,4 +34,4 @@ returns-4 c = frame-there (c .before .before .before .before .front-of .result) 
 
 pub open-len-spec : {M : Type 1} → statement M
 open-len-spec =
-    tie.close (tie.spec front-of-requires middle-of-requires returns returns-2 returns-3 returns-4)
+    tie.close (tie.spec front-of-requires middle-of-requires returns returns-2 mul-if3 add-if3 returns-3 returns-4)
