@@ -7,7 +7,9 @@ ghost use Rattle.data_bytes.specs.Data.{dataRun};
 use byte_words::WORD;
 use byte_words::put_word;
 use byte_words::word_at;
-use data_bytes::TOPS;
+
+// The top bits of all eight bytes of a word.
+const TOPS: u64 = 0x8080_8080_8080_8080;
 
 // Copies the whole words: eight bytes are read ahead of the first store, so that they are one load and one store.
 fn copy_words(from: &[u8], to: &mut [u8])

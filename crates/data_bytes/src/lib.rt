@@ -6,7 +6,7 @@ ghost use Rattle.data_bytes.specs.Data.{dataRun, allData, topBits, topBi
 use byte_words::WORD;
 
 // The top bits of all eight bytes of a word.
-pub const TOPS: u64 = 0x8080_8080_8080_8080;
+const TOPS: u64 = 0x8080_8080_8080_8080;
 
 // The top bits of eight bytes, each where it stands in the word.
 fn tops(a: u8, b: u8, c: u8, d: u8, e: u8, f: u8, g: u8, h: u8) -> u64
