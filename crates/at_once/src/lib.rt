@@ -5,7 +5,7 @@ ghost use Prim.Native.Nat.{_≤_};
 ghost use lib.ListN.{length};
 ghost use Rattle.decoder.specs.declared.MaybeReport.the-variants as o;
 ghost use Rattle.report_numbers.specs.Reports.{numbersOf};
-ghost use Rattle.at_once.specs.AtOnce.{isRealtime, realtimeLeads, realtimeNumbers, firstNumber, secondNumber, messageNumbers, Paired, AtOnce};
+ghost use Rattle.at_once.specs.AtOnce.{isRealtime, realtimeLeads, realtimeNumbers, firstNumber, secondNumber, messageNumbers, Paired, Singled, Whole, AtOnce};
 use decoder::RunningStatus;
 use report_numbers::CHANNEL;
 use report_numbers::FedAnswer;
@@ -97,17 +97,11 @@ fn none() -> FedAnswer
     }
 }
 
-// Answers with the two data bytes at a place, under a status that takes two and tells both, 80 to BF; uses nothing where they are not there.
+// Answers with the two data bytes at a place, under a status that takes two; uses nothing where they are not there.
 fn pair(status: u8, at: usize, state: &mut [u8], bytes: &[u8]) -> FedAnswer
     requires { ⌜ (length (now state) ≡ 14) × (at ≤ 1) ⌝ }
     ensures { λ r. ⌜ Paired status at (now (bytes .entry)) r (now (state .entry)) (now (state .exit)) ⌝ }
 {
-    if status < 0x80 {
-        return none();
-    }
-    if 0xC0 <= status {
-        return none();
-    }
     if bytes.len() < at + 2 {
         return none();
     }
@@ -124,8 +118,45 @@ fn pair(status: u8, at: usize, state: &mut [u8], bytes: &[u8]) -> FedAnswer
     message_answer(status, first, second, at + 2)
 }
 
-// Answers a call outside a frame, with this status and nothing pending, whose bytes begin with a whole note, key pressure or controller; uses
-// nothing where they do not.
+// The same with the only data byte of a status that takes one. The state keeps its second one.
+fn single(status: u8, at: usize, state: &mut [u8], bytes: &[u8]) -> FedAnswer
+    requires { ⌜ (length (now state) ≡ 14) × (at ≤ 1) ⌝ }
+    ensures { λ r. ⌜ Singled status at (now (bytes .entry)) r (now (state .entry)) (now (state .exit)) ⌝ }
+{
+    if bytes.len() < at + 1 {
+        return none();
+    }
+    let only = bytes[at];
+    if 0x80 <= only {
+        return none();
+    }
+    let held = RunningStatus::Status(status);
+    decoder_bytes::put_state(decoder_bytes::outside(held, 0, only, state[13]), state);
+    message_answer(status, only, 0, at + 1)
+}
+
+// Answers with the data bytes of a channel status at a place; uses nothing where they are not all there, or it is no channel status.
+fn whole_at(status: u8, at: usize, state: &mut [u8], bytes: &[u8]) -> FedAnswer
+    requires { ⌜ (length (now state) ≡ 14) × (at ≤ 1) ⌝ }
+    ensures { λ r. ⌜ Whole status at (now (bytes .entry)) r (now (state .entry)) (now (state .exit)) ⌝ }
+{
+    if status < 0x80 {
+        return none();
+    }
+    if status <= 0xBF {
+        return pair(status, at, state, bytes);
+    }
+    if status <= 0xDF {
+        return single(status, at, state, bytes);
+    }
+    if status <= 0xEF {
+        return pair(status, at, state, bytes);
+    }
+    none()
+}
+
+// Answers a call outside a frame, with this status and nothing pending, whose bytes begin with a whole channel message; uses nothing where they
+// do not.
 pub fn answer(status: u8, state: &mut [u8], bytes: &[u8]) -> FedAnswer
     requires { ⌜ length (now state) ≡ 14 ⌝ }
     ensures { λ r. ⌜ AtOnce status (now (bytes .entry)) r (now (state .entry)) (now (state .exit)) ⌝ }
@@ -135,7 +166,7 @@ pub fn answer(status: u8, state: &mut [u8], bytes: &[u8]) -> FedAnswer
     }
     let byte = bytes[0];
     if byte < 0x80 {
-        return pair(status, 0, state, bytes);
+        return whole_at(status, 0, state, bytes);
     }
-    pair(byte, 1, state, bytes)
+    whole_at(byte, 1, state, bytes)
 }

@@ -16,8 +16,6 @@ use Rattle.decoder.specs.declared.Fed.{Fed}
 use Rattle.decoder.specs.declared.FeedAnswer.{FeedAnswer}
 use Rattle.decoder.specs.declared.FeedAnswer.the-variants as a
 use Rattle.decoder.specs.State.{limit}
-use Rattle.decoder.proofs.Walking.{counted}
-use native.Mathlib.Nat.{zero-add}
 use Rattle.decoder.specs.declared.Class.the-variants as k
 use Rattle.decoder.specs.Step.{silent, opened}
 use Rattle.decoder.proofs.Classes.{class-is}
@@ -33,7 +31,7 @@ use Rattle.decoder_bytes.proofs.StateBytes.{written-back}
 use Rattle.decoder_bytes.proofs.Reading.{Tells, frame-told, idle-told}
 use Rattle.decoder.proofs.Limit.{room-for-three}
 use Rattle.at_once.specs.AtOnce.{realtimeLeads, realtimeNumbers, Numbered, AtOnce}
-use Rattle.at_once.proofs.Answers.{unused-same, used-answered, realtime-answered}
+use Rattle.at_once.proofs.Answers.{unused-same, used-answered, realtime-answered, from-first}
 use Rattle.frame_calls.specs.One.{OneByte}
 use Rattle.frame_calls.proofs.One.{one-unused, one-used}
 use Rattle.plain_calls.specs.Plain.{Waits}
@@ -141,7 +139,7 @@ idle-realtime v bytes r state h t bytes-small small leads e = record { no = λ _
 
 pub idle-answered : (v : ℕ) (bytes : List ℕ) (r : FedAnswer) (state later : List ℕ) → v < 256 → AtOnce v bytes r state later → Idled v bytes r state later
 idle-answered v bytes r state later h a =
-    record { no = unused-same v bytes r state later a; yes = λ some. (h, λ store. used-answered v bytes r state later a some store (getD state 12 0) (getD state 13 0)) }
+    record { no = unused-same v bytes r state later a; yes = λ some. (h, λ store. used-answered v bytes r state later a some store (getD state 12 0)) }
 
 -- one data byte in an open frame
 pub not-one-fed : (v at : ℕ) (state store bytes : List ℕ) (r : FedAnswer) → r ≡ refusedFeed 0 → OneFed v at state store bytes r state store
@@ -172,10 +170,6 @@ at-none v state bytes h t = rw (lt-leb 256 v h, t)
 pub frame-told-at : (l : List ℕ) (n : ℕ) → length l ≡ 14 → ((i : ℕ) → getD l i 0 < 256) → n ≡ openLength l → 0 < n → Tells l (openState n l) × (n ≤ limit)
 frame-told-at l n long bytes e some =
     subst (λ (m : ℕ). Tells l (openState m l) × (m ≤ limit)) (sym e) (frame-told l long bytes (omega (arith, e, some)))
-
--- a call with no byte used ahead of it
-pub from-first : (w : Walked) (r : FedAnswer) (later left : List ℕ) → Numbered (further 0 w) r later left → Numbered w r later left
-from-first w r later left n = subst (λ (x : Walked). Numbered x r later left) (ap (counted w) (zero-add (w .fed .used))) n
 
 -- F0 leads a call outside a frame
 pub start-walks : (v h : ℕ) (state store bytes : List ℕ) → 0 < length bytes → getD bytes 0 0 ≡ 0xF0

@@ -1,4 +1,4 @@
--- `answer` meets its contract: nothing is used, or the two data bytes stand behind their status or under the one in force.
+-- `answer` meets its contract: nothing is used, or the data bytes stand behind their status or under the one in force.
 use native.Mathlib.Omega.{arith}
 use Rattle.at_once.proofs.Answers.{no-bytes, data-answered, status-answered}
 use borrow.Author.Needs.{needs}
@@ -14,23 +14,23 @@ returns c = no-bytes ((c .before .before .before .before .args) .status) ((c .be
 shared-slice-read-byte : tie.Need-shared-slice-read-byte
 shared-slice-read-byte c = search needs
 
-pair-requires : tie.Need-pair-requires
-pair-requires c κs = search needs
+whole-at-requires : tie.Need-whole-at-requires
+whole-at-requires c κs = search needs
 
 same-length : tie.Need-same-length
 same-length c = search needs
 
 returns-2 : tie.Need-returns-2
-returns-2 c = data-answered ((c .before .before .before .before .before .before .before .before .before .args) .bytes .now) (omega arith) _ _ _ ((c .before .before .before .before .before .before .before .before .before .args) .status) ((c .before .before .before .before .if2) .taken) ((c .before .before .pair) .ensures)
+returns-2 c = data-answered ((c .before .before .before .before .before .before .before .before .before .args) .bytes .now) (omega arith) _ _ _ ((c .before .before .before .before .before .before .before .before .before .args) .status) ((c .before .before .before .before .if2) .taken) ((c .before .before .whole-at) .ensures)
 
-pair-requires-2 : tie.Need-pair-requires-2
-pair-requires-2 c κs = search needs
+whole-at-requires-2 : tie.Need-whole-at-requires-2
+whole-at-requires-2 c κs = search needs
 
 same-length-2 : tie.Need-same-length-2
 same-length-2 c = search needs
 
 returns-3 : tie.Need-returns-3
-returns-3 c = status-answered ((c .before .before .before .before .before .before .before .before .before .args) .bytes .now) (omega arith) _ _ _ ((c .before .before .before .before .before .before .before .before .before .args) .status) (omega arith) ((c .before .before .pair2) .ensures)
+returns-3 c = status-answered ((c .before .before .before .before .before .before .before .before .before .args) .bytes .now) (omega arith) _ _ _ ((c .before .before .before .before .before .before .before .before .before .args) .status) (omega arith) ((c .before .before .whole-at2) .ensures)
 
 pub answer-spec : {M : Type 1} → statement M
 answer-spec =
@@ -39,9 +39,9 @@ answer-spec =
     none-requires
     returns
     shared-slice-read-byte
-    pair-requires
+    whole-at-requires
     same-length
     returns-2
-    pair-requires-2
+    whole-at-requires-2
     same-length-2
     returns-3)

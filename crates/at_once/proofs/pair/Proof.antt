@@ -4,32 +4,20 @@ use Prim.Native.Nat.{_+_, _≤_}
 use lib.ListN.{length}
 use native.Mathlib.Omega.{arith}
 use Rattle.decoder_bytes.specs.State.{encoded}
-use Rattle.at_once.proofs.Tests.{too-low, too-high, too-few, first-high, second-high, both-there}
+use Rattle.at_once.proofs.Tests.{too-few, first-high, broken-at, two-there}
 use Rattle.at_once.proofs.Answers.{no-pair, a-pair}
 use borrow.Author.Needs.{needs}
 use Rattle.at_once.proofs.pair.Statement.{statement}
 use Rattle.at_once.proofs.pair.Tie as tie
 
+add-if1 : tie.Need-add-if1
+add-if1 c = search needs
+
 none-requires : tie.Need-none-requires
 none-requires c κs = search needs
 
 returns : tie.Need-returns
-returns c = no-pair ((c .before .before .before .before .args) .status) ((c .before .before .before .before .args) .at) ((c .before .before .before .before .args) .bytes .now) _ _ (too-low ((c .before .before .before .before .args) .status) ((c .before .before .before .before .args) .at) ((c .before .before .before .before .args) .bytes .now) ((c .before .if1) .taken)) ((c .none) .ensures)
-
-none-requires-2 : tie.Need-none-requires-2
-none-requires-2 c κs = search needs
-
-returns-2 : tie.Need-returns-2
-returns-2 c = no-pair ((c .before .before .before .before .before .args) .status) ((c .before .before .before .before .before .args) .at) ((c .before .before .before .before .before .args) .bytes .now) _ _ (too-high ((c .before .before .before .before .before .args) .status) ((c .before .before .before .before .before .args) .at) ((c .before .before .before .before .before .args) .bytes .now) (omega arith) ((c .before .if2) .taken)) ((c .none2) .ensures)
-
-add-if3 : tie.Need-add-if3
-add-if3 c = search needs
-
-none-requires-3 : tie.Need-none-requires-3
-none-requires-3 c κs = search needs
-
-returns-3 : tie.Need-returns-3
-returns-3 c = no-pair ((c .before .before .before .before .before .before .args) .status) ((c .before .before .before .before .before .before .args) .at) ((c .before .before .before .before .before .before .args) .bytes .now) _ _ (too-few ((c .before .before .before .before .before .before .args) .status) ((c .before .before .before .before .before .before .args) .at) ((c .before .before .before .before .before .before .args) .bytes .now) (omega arith) (omega arith) ((c .before .if3) .taken)) ((c .none3) .ensures)
+returns c = no-pair ((c .before .before .before .before .args) .status) ((c .before .before .before .before .args) .at) ((c .before .before .before .before .args) .bytes .now) _ _ (too-few 2 ((c .before .before .before .before .args) .at) ((c .before .before .before .before .args) .bytes .now) (omega arith) ((c .before .if1) .taken)) ((c .none) .ensures)
 
 shared-slice-read-first : tie.Need-shared-slice-read-first
 shared-slice-read-first c = search needs
@@ -40,17 +28,17 @@ add-second c = search needs
 shared-slice-read-second : tie.Need-shared-slice-read-second
 shared-slice-read-second c = search needs
 
-none-requires-4 : tie.Need-none-requires-4
-none-requires-4 c κs = search needs
+none-requires-2 : tie.Need-none-requires-2
+none-requires-2 c κs = search needs
 
-returns-4 : tie.Need-returns-4
-returns-4 c = no-pair ((c .before .before .before .before .before .before .before .before .before .args) .status) ((c .before .before .before .before .before .before .before .before .before .args) .at) ((c .before .before .before .before .before .before .before .before .before .args) .bytes .now) _ _ (first-high ((c .before .before .before .before .before .before .before .before .before .args) .status) ((c .before .before .before .before .before .before .before .before .before .args) .at) ((c .before .before .before .before .before .before .before .before .before .args) .bytes .now) (omega arith) (omega arith) ((c .before .if4) .taken)) ((c .none4) .ensures)
+returns-2 : tie.Need-returns-2
+returns-2 c = no-pair ((c .before .before .before .before .before .before .before .args) .status) ((c .before .before .before .before .before .before .before .args) .at) ((c .before .before .before .before .before .before .before .args) .bytes .now) _ _ (first-high ((c .before .before .before .before .before .before .before .args) .at) ((c .before .before .before .before .before .before .before .args) .bytes .now) 2 (omega arith) ((c .before .if2) .taken)) ((c .none2) .ensures)
 
-none-requires-5 : tie.Need-none-requires-5
-none-requires-5 c κs = search needs
+none-requires-3 : tie.Need-none-requires-3
+none-requires-3 c κs = search needs
 
-returns-5 : tie.Need-returns-5
-returns-5 c = no-pair ((c .before .before .before .before .before .before .before .before .before .before .args) .status) ((c .before .before .before .before .before .before .before .before .before .before .args) .at) ((c .before .before .before .before .before .before .before .before .before .before .args) .bytes .now) _ _ (second-high ((c .before .before .before .before .before .before .before .before .before .before .args) .status) ((c .before .before .before .before .before .before .before .before .before .before .args) .at) ((c .before .before .before .before .before .before .before .before .before .before .args) .bytes .now) (omega arith) (omega arith) ((c .before .if5) .taken)) ((c .none5) .ensures)
+returns-3 : tie.Need-returns-3
+returns-3 c = no-pair ((c .before .before .before .before .before .before .before .before .args) .status) ((c .before .before .before .before .before .before .before .before .args) .at) ((c .before .before .before .before .before .before .before .before .args) .bytes .now) _ _ (broken-at 2 ((c .before .before .before .before .before .before .before .before .args) .at) ((c .before .before .before .before .before .before .before .before .args) .bytes .now) 1 (omega arith) ((c .before .if3) .taken)) ((c .none3) .ensures)
 
 outside-requires : tie.Need-outside-requires
 outside-requires c κs = search needs
@@ -67,32 +55,28 @@ message-answer-requires c κs = search needs
 same-length : tie.Need-same-length
 same-length c = search needs
 
-returns-6 : tie.Need-returns-6
-returns-6 c = let a = (c .before .before .before .before .before .before .before .before .before .before .before .before .before .before .before .args) in
+returns-4 : tie.Need-returns-4
+returns-4 c = let a = (c .before .before .before .before .before .before .before .before .before .before .before .before .before .args) in
     let there : a .at + 2 ≤ length (a .bytes .now) = omega arith in
-    a-pair ((c .before .before .before .before .before .before .before .before .before .before .before .before .before .before .before .args) .status) ((c .before .before .before .before .before .before .before .before .before .before .before .before .before .before .before .args) .at) ((c .before .before .before .before .before .before .before .before .before .before .before .before .before .before .before .args) .bytes .now) _ _ _ (both-there ((c .before .before .before .before .before .before .before .before .before .before .before .before .before .before .before .args) .status) ((c .before .before .before .before .before .before .before .before .before .before .before .before .before .before .before .args) .at) ((c .before .before .before .before .before .before .before .before .before .before .before .before .before .before .before .args) .bytes .now) (omega arith) (omega arith) there (omega arith) (omega arith)) ((c .message-answer) .ensures) ((c .before .before .before .put-state) .ensures ∙ ap encoded ((c .before .before .before .before .before .outside) .ensures))
+    a-pair ((c .before .before .before .before .before .before .before .before .before .before .before .before .before .args) .status) ((c .before .before .before .before .before .before .before .before .before .before .before .before .before .args) .at) ((c .before .before .before .before .before .before .before .before .before .before .before .before .before .args) .bytes .now) _ _ _ (two-there ((c .before .before .before .before .before .before .before .before .before .before .before .before .before .args) .at) ((c .before .before .before .before .before .before .before .before .before .before .before .before .before .args) .bytes .now) there (omega arith) (omega arith)) ((c .message-answer) .ensures) ((c .before .before .before .put-state) .ensures ∙ ap encoded ((c .before .before .before .before .before .outside) .ensures))
 
 pub pair-spec : {M : Type 1} → statement M
 pair-spec =
     tie.close
     (tie.spec
+    add-if1
     none-requires
     returns
-    none-requires-2
-    returns-2
-    add-if3
-    none-requires-3
-    returns-3
     shared-slice-read-first
     add-second
     shared-slice-read-second
-    none-requires-4
-    returns-4
-    none-requires-5
-    returns-5
+    none-requires-2
+    returns-2
+    none-requires-3
+    returns-3
     outside-requires
     put-state-requires
     add-message-answer
     message-answer-requires
     same-length
-    returns-6)
+    returns-4)
