@@ -57,8 +57,8 @@ fn start_leads(bytes: &[u8]) -> bool
     bytes[0] == 0xF0
 }
 
-// A call outside a frame, with a channel status or none, byte by byte. It is called in two places so that it is a function of its own for the
-// compiler, and not a part of every call.
+// A call outside a frame, with a channel status or none, byte by byte. `plain_call` is called in two places so that it is a function of its own
+// for the compiler, and not a part of every call.
 fn plain_feed(status: u8, have: u8, state: &mut [u8], store: &mut [u8], bytes: &[u8]) -> FedAnswer
     requires { ⌜ (length (now state) ≡ 14) × (limit ≤ length (now store)) × (Waits status have (getD (now state) 12 0)) ⌝ }
     ensures { λ r. ⌜ Numbered (walk (closedState status have (getD (now (state .entry)) 12 0) (getD (now (state .entry)) 13 0)) (now (store .entry)) (now (bytes .entry))) r (now (state .exit)) (now (store .exit)) ⌝ }
@@ -69,8 +69,8 @@ fn plain_feed(status: u8, have: u8, state: &mut [u8], store: &mut [u8], bytes: &
     frame_calls::again(plain_calls::plain_call(status, have, state, store, bytes))
 }
 
-// A call with nothing pending outside a frame, by its status there (256: it is no such state), where a real-time byte or a whole message of two
-// data bytes leads; nothing used where none does.
+// A call with nothing pending outside a frame, by its status there (256: it is no such state), where a real-time byte or a whole channel
+// message leads; nothing used where none does.
 fn idle_feed(idle: usize, state: &mut [u8], bytes: &[u8]) -> FedAnswer
     requires { ⌜ (length (now state) ≡ 14) × (idle ≡ idleStatus (now state)) ⌝ }
     ensures { λ r. ⌜ Idled idle (now (bytes .entry)) r (now (state .entry)) (now (state .exit)) ⌝ }
