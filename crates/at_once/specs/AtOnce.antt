@@ -1,4 +1,4 @@
--- Calls that are one whole message, answered at once. No promise uses this: the decoder's `walk` says what a call does.
+-- Calls that begin with a whole message, answered at once. No promise at the boundary uses this: the decoder's `walk` says what a call does.
 use mathlib.Core.Path.{_≡_}
 use mathlib.Core.Bool.{Bool, true, false, _&&_, not}
 use mathlib.Core.List.{List}

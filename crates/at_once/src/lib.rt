@@ -1,4 +1,4 @@
-// Calls that are one whole message, by plain numbers: what the decoder's call answers, had without it.
+// Calls that begin with a whole message, by plain numbers: what the decoder's call answers, had without it.
 ghost use mathlib.Core.Path.{_≡_};
 ghost use mathlib.Core.Bool.{false};
 ghost use Prim.Native.Nat.{_≤_};
@@ -9,6 +9,7 @@ ghost use Rattle.at_once.specs.AtOnce.{isRealtime, realtimeLeads, realti
 use decoder::RunningStatus;
 use report_numbers::CHANNEL;
 use report_numbers::FedAnswer;
+use report_numbers::NOTHING;
 use report_numbers::REALTIME;
 
 // Is the byte a real-time message? F9 and FD are none. The clock, which comes most often, is tested first.
@@ -83,14 +84,15 @@ pub fn message_answer(status: u8, first: u8, second: u8, used: usize) -> FedAnsw
     }
 }
 
-fn none() -> FedAnswer
-    ensures { λ r. ⌜ r ≡ numbersOf 0 false o.None ⌝ }
+// So many bytes used, and nothing reported.
+pub fn quiet_answer(used: usize) -> FedAnswer
+    ensures { λ a. ⌜ a ≡ numbersOf used false o.None ⌝ }
 {
     FedAnswer {
         number: 0,
-        used: 0,
+        used: used as u64,
         interrupted: 0,
-        kind: 0,
+        kind: NOTHING,
         status: 0,
         first: 0,
         second: 0,
@@ -103,15 +105,15 @@ fn pair(status: u8, at: usize, state: &mut [u8], bytes: &[u8]) -> FedAnswer
     ensures { λ r. ⌜ Paired status at (now (bytes .entry)) r (now (state .entry)) (now (state .exit)) ⌝ }
 {
     if bytes.len() < at + 2 {
-        return none();
+        return quiet_answer(0);
     }
     let first = bytes[at];
     let second = bytes[at + 1];
     if 0x80 <= first {
-        return none();
+        return quiet_answer(0);
     }
     if 0x80 <= second {
-        return none();
+        return quiet_answer(0);
     }
     let held = RunningStatus::Status(status);
     decoder_bytes::put_state(decoder_bytes::outside(held, 0, first, second), state);
@@ -124,11 +126,11 @@ fn single(status: u8, at: usize, state: &mut [u8], bytes: &[u8]) -> FedAnswer
     ensures { λ r. ⌜ Singled status at (now (bytes .entry)) r (now (state .entry)) (now (state .exit)) ⌝ }
 {
     if bytes.len() < at + 1 {
-        return none();
+        return quiet_answer(0);
     }
     let only = bytes[at];
     if 0x80 <= only {
-        return none();
+        return quiet_answer(0);
     }
     let held = RunningStatus::Status(status);
     decoder_bytes::put_state(decoder_bytes::outside(held, 0, only, state[13]), state);
@@ -141,7 +143,7 @@ fn whole_at(status: u8, at: usize, state: &mut [u8], bytes: &[u8]) -> FedAnswer
     ensures { λ r. ⌜ Whole status at (now (bytes .entry)) r (now (state .entry)) (now (state .exit)) ⌝ }
 {
     if status < 0x80 {
-        return none();
+        return quiet_answer(0);
     }
     if status <= 0xBF {
         return pair(status, at, state, bytes);
@@ -152,7 +154,7 @@ fn whole_at(status: u8, at: usize, state: &mut [u8], bytes: &[u8]) -> FedAnswer
     if status <= 0xEF {
         return pair(status, at, state, bytes);
     }
-    none()
+    quiet_answer(0)
 }
 
 // Answers a call outside a frame, with this status and nothing pending, whose bytes begin with a whole channel message; uses nothing where they
@@ -162,7 +164,7 @@ pub fn answer(status: u8, state: &mut [u8], bytes: &[u8]) -> FedAnswer
     ensures { λ r. ⌜ AtOnce status (now (bytes .entry)) r (now (state .entry)) (now (state .exit)) ⌝ }
 {
     if bytes.len() == 0 {
-        return none();
+        return quiet_answer(0);
     }
     let byte = bytes[0];
     if byte < 0x80 {

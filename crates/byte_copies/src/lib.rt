@@ -4,14 +4,12 @@ ghost use mathlib.Core.List.{_++_};
 ghost use Prim.Native.Nat.{_*_, _/_, _≤_};
 ghost use lib.ListN.{length, take, drop};
 ghost use Rattle.data_bytes.specs.Data.{dataRun};
+use byte_words::TOPS;
 use byte_words::WORD;
 use byte_words::put_word;
 use byte_words::word_at;
 
-// The top bits of all eight bytes of a word.
-const TOPS: u64 = 0x8080_8080_8080_8080;
-
-// Copies the whole words: eight bytes are read ahead of the first store, so that they are one load and one store.
+// Copies the whole words.
 fn copy_words(from: &[u8], to: &mut [u8])
     requires { ⌜ length (now from) ≤ length (now to) ⌝ }
     ensures { λ _. ⌜ now (to .exit) ≡ take (length (now (from .entry)) / 8 * 8) (now (from .entry)) ++ drop (length (now (from .entry)) / 8 * 8) (now (to .entry)) ⌝ }
@@ -20,22 +18,7 @@ fn copy_words(from: &[u8], to: &mut [u8])
     let mut w: usize = 0;
     while w < words {
         let i = w * WORD;
-        let a = from[i];
-        let b = from[i + 1];
-        let c = from[i + 2];
-        let d = from[i + 3];
-        let e = from[i + 4];
-        let f = from[i + 5];
-        let g = from[i + 6];
-        let h = from[i + 7];
-        to[i] = a;
-        to[i + 1] = b;
-        to[i + 2] = c;
-        to[i + 3] = d;
-        to[i + 4] = e;
-        to[i + 5] = f;
-        to[i + 6] = g;
-        to[i + 7] = h;
+        put_word(word_at(from, i), to, i);
         w += 1;
     }
 }

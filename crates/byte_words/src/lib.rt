@@ -7,6 +7,9 @@ ghost use Rattle.byte_words.specs.Words.{word, wordAt, putWord};
 // Bytes in a word.
 pub const WORD: usize = 8;
 
+// The top bits of all eight bytes of a word.
+pub const TOPS: u64 = 0x8080_8080_8080_8080;
+
 // Eight bytes joined to a word, the first lowest.
 pub fn join(a: u8, b: u8, c: u8, d: u8, e: u8, f: u8, g: u8, h: u8) -> u64
     ensures { λ r. ⌜ r ≡ word a b c d e f g h ⌝ }

@@ -1,6 +1,6 @@
 -- What is known of a run of data bytes, each by the list's first byte: a data byte makes the run one longer, any other ends it.
 use mathlib.Core.Path.{_≡_, refl, ap, subst, sym, _∙_}
-use mathlib.Core.Bool.{true, false}
+use mathlib.Core.Bool.{false}
 use mathlib.Core.List.{List, [], _∷_, _++_}
 use Prim.Native.Nat.{ℕ, zero, suc, _+_, _≤_, _<_, min}
 use native.Mathlib.Nat.{zero-add, zero-min, min-zero, suc-min-suc, suc-add}

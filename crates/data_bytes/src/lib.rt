@@ -3,10 +3,8 @@ ghost use mathlib.Core.Path.{_≡_};
 ghost use Prim.Native.Nat.{_+_, _≤_};
 ghost use lib.ListN.{length};
 ghost use Rattle.data_bytes.specs.Data.{dataRun, allData, topBits, topBitsAt};
+use byte_words::TOPS;
 use byte_words::WORD;
-
-// The top bits of all eight bytes of a word.
-const TOPS: u64 = 0x8080_8080_8080_8080;
 
 // The top bits of eight bytes, each where it stands in the word.
 fn tops(a: u8, b: u8, c: u8, d: u8, e: u8, f: u8, g: u8, h: u8) -> u64

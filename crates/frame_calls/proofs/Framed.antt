@@ -1,10 +1,10 @@
 -- A call in an open frame goes on behind its run of data bytes, because the decoder stores them one after another and reports nothing.
 use mathlib.Core.Path.{_≡_, refl, sym, ap, ap₂, subst, _∙_}
-use mathlib.Core.Bool.{true, false}
+use mathlib.Core.Bool.{true, false, _&&_}
 use mathlib.Core.List.{List, [], _∷_, _++_}
 use Prim.Native.Nat.{ℕ, zero, suc, _+_, _-_, _^_, _≤_, _<_, min}
-use lib.Dec.{leb}
-use borrow.Author.Tests.{leb-true}
+use lib.Dec.{leb, ltb, eqb}
+use borrow.Author.Tests.{leb-true, ltb-true, eqb-true, eq-eqb, ne-eqb}
 use borrow.Rule.Slice.PartMut.{putMid}
 use native.Mathlib.Nat.{add-zero, zero-add}
 use native.Mathlib.Omega.{arith}
@@ -25,6 +25,7 @@ use Rattle.decoder.specs.State.{limit, cleared}
 use Rattle.decoder.specs.Step.{step, stored, reporting, realtimeReport}
 use Rattle.decoder.specs.declared.Fed.{Fed}
 use Rattle.decoder.specs.Call.{Walked, Walks, walk, further, reports}
+use Rattle.decoder.proofs.Limit.{limit-is}
 use Rattle.decoder.proofs.Classes.{class-is}
 use Rattle.decoder.proofs.Steps.{end-fits, step-by}
 use Rattle.decoder.proofs.Runs.{frame-run, more-further}
@@ -41,6 +42,16 @@ use Rattle.at_once.proofs.Answers.{numbered}
 -- a walk by another name
 pub numbered-as : (v w : Walked) (a : FedAnswer) (later left : List ℕ) → v ≡ w → Numbered w a later left → Numbered v a later left
 numbered-as v w a later left e n = subst (λ (x : Walked). Numbered x a later left) (sym e) n
+
+-- the end of a frame: F7 within the limit
+pub no-end : (b n : ℕ) → (b ≡ 0xF7 → ⊥) → false ≡ (eqb b 0xF7 && ltb n limit)
+no-end b n h = rw (ne-eqb b 0xF7 h)
+
+pub end-by-room : (b n : ℕ) → b ≡ 0xF7 → ltb n 2354 ≡ (eqb b 0xF7 && ltb n limit)
+end-by-room b n e = rw (eq-eqb b 0xF7 e) (ap (ltb n) (sym limit-is))
+
+pub end-there : (b n : ℕ) → (eqb b 0xF7 && ltb n limit) ≡ true → (b ≡ 0xF7) × (n < limit)
+end-there b n t = let p = both (eqb b 0xF7) (ltb n limit) t in (eqb-true b 0xF7 (p .0), ltb-true n limit (p .1))
 
 -- a place within the bytes has a next one
 pub one-more-fits : (n m : ℕ) → n ≤ m → (n ≡ m → ⊥) → m < 2 ^ 64 → n + 1 < 2 ^ 64

@@ -1,7 +1,8 @@
 // Calls in an open frame, by plain numbers: its data bytes are moved to the store at once, and the byte behind them ends the call.
 ghost use mathlib.Core.Path.{_≡_};
-ghost use mathlib.Core.Bool.{false};
+ghost use mathlib.Core.Bool.{false, _&&_};
 ghost use Prim.Native.Nat.{_+_, _-_, _≤_, min};
+ghost use lib.Dec.{ltb, eqb};
 ghost use lib.ListN.{length, drop};
 ghost use Rattle.decoder.specs.State.{limit};
 ghost use Rattle.decoder.specs.Call.{walk, further};
@@ -11,27 +12,12 @@ ghost use Rattle.decoder_bytes.specs.Words.{openState};
 ghost use Rattle.report_numbers.specs.Reports.{numbersOf};
 ghost use Rattle.at_once.specs.AtOnce.{Numbered};
 ghost use Rattle.frame_calls.specs.One.{OneByte};
+use at_once::quiet_answer;
 use decoder::Decoder;
 use decoder::MAX_SYSEX_LEN;
 use decoder::RunningStatus;
 use report_numbers::FedAnswer;
-use report_numbers::NOTHING;
 use report_numbers::SYSEX;
-
-// So many bytes used, and nothing reported.
-pub fn quiet_answer(used: usize) -> FedAnswer
-    ensures { λ a. ⌜ a ≡ numbersOf used false o.None ⌝ }
-{
-    FedAnswer {
-        number: 0,
-        used: used as u64,
-        interrupted: 0,
-        kind: NOTHING,
-        status: 0,
-        first: 0,
-        second: 0,
-    }
-}
 
 // A frame of so many bytes.
 fn frame_answer(len: usize, used: usize) -> FedAnswer
@@ -93,6 +79,16 @@ pub fn walked(
     again(report_numbers::numbers(used + fed.used, fed.interrupted, report))
 }
 
+// Does the byte end a frame of so many bytes, within the limit?
+fn ends_frame(byte: u8, len: usize) -> bool
+    ensures { λ e. ⌜ e ≡ (eqb byte 0xF7 && ltb len limit) ⌝ }
+{
+    if byte != 0xF7 {
+        return false;
+    }
+    len < MAX_SYSEX_LEN
+}
+
 // The rest of a call, behind the used bytes, in an open frame of so many bytes. What breaks the frame off is left to the decoder's own walk.
 pub fn frame_call(
     at: usize,
@@ -117,16 +113,7 @@ pub fn frame_call(
         decoder_bytes::put_state(decoder_bytes::frame_of(len, state), state);
         return at_once::realtime_answer(byte, next + 1);
     }
-    if byte == 0xF7 {
-        if MAX_SYSEX_LEN <= len {
-            return walked(
-                decoder_bytes::frame_of(len, state),
-                next,
-                state,
-                store,
-                bytes,
-            );
-        }
+    if ends_frame(byte, len) {
         store[len] = byte;
         let closed = decoder_bytes::outside(RunningStatus::None, 0, state[12], state[13]);
         decoder_bytes::put_state(closed, state);

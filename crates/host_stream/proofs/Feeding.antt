@@ -15,6 +15,7 @@ use Rattle.refusal.specs.Outcome.{Outcome, gives, refused, refusal}
 use Rattle.decoder.specs.declared.Fed.{Fed}
 use Rattle.decoder.specs.declared.FeedAnswer.{FeedAnswer}
 use Rattle.decoder.specs.declared.FeedAnswer.the-variants as a
+use Rattle.decoder.specs.declared.MaybeReport.the-variants as o
 use Rattle.decoder.specs.State.{limit}
 use Rattle.decoder.specs.declared.Class.the-variants as k
 use Rattle.decoder.specs.Step.{silent, opened}
@@ -130,7 +131,7 @@ told-waits l x t h = record { sound = λ b. t .sound; channel = h }
 pub idle-waits : (l : List ℕ) (n : ℕ) → Tells l (closedState n 0 (getD l 12 0) (getD l 13 0)) × (n < 0xF0) → Waits n 0 (getD l 12 0)
 idle-waits l n t = record { sound = λ b. t .0 .sound; channel = t .1 }
 
-pub not-idle : (v : ℕ) (bytes : List ℕ) (r : FedAnswer) (state : List ℕ) → r ≡ refusedFeed 0 → Idled v bytes r state state
+pub not-idle : (v : ℕ) (bytes : List ℕ) (r : FedAnswer) (state : List ℕ) → r ≡ numbersOf 0 false o.None → Idled v bytes r state state
 not-idle v bytes r state e = record { no = λ _. refl; yes = λ h. absurd (omega (arith, h, ap (λ (x : FedAnswer). x .used) e)) }
 
 pub idle-realtime : (v : ℕ) (bytes : List ℕ) (r : FedAnswer) (state : List ℕ) → v < 256 → Tells state (closedState v 0 (getD state 12 0) (getD state 13 0))
@@ -142,13 +143,13 @@ idle-answered v bytes r state later h a =
     record { no = unused-same v bytes r state later a; yes = λ some. (h, λ store. used-answered v bytes r state later a some store (getD state 12 0)) }
 
 -- one data byte in an open frame
-pub not-one-fed : (v at : ℕ) (state store bytes : List ℕ) (r : FedAnswer) → r ≡ refusedFeed 0 → OneFed v at state store bytes r state store
+pub not-one-fed : (v at : ℕ) (state store bytes : List ℕ) (r : FedAnswer) → r ≡ numbersOf 0 false o.None → OneFed v at state store bytes r state store
 not-one-fed v at state store bytes r e = record { no = λ _. (refl, refl); yes = λ h. absurd (omega (arith, h, ap (λ (x : FedAnswer). x .used) e)) }
 
 pub one-fed : (v at : ℕ) (state store bytes : List ℕ) (r : FedAnswer) (later left : List ℕ) → 256 ≤ v → OneByte at state store bytes r later left
     → OneFed v at state store bytes r later left
-one-fed v at state store bytes r later left h o =
-    record { no = one-unused at state store bytes r later left o; yes = λ some. (h, one-used at state store bytes r later left o some) }
+one-fed v at state store bytes r later left h one =
+    record { no = one-unused at state store bytes r later left one; yes = λ some. (h, one-used at state store bytes r later left one some) }
 
 pub start-open : (v used : ℕ) (store : List ℕ) → 256 ≤ v → used ≡ 0 → Started v used store store
 start-open v used store h e = record { open-yet = λ _. (e, refl); begins = λ l. absurd (omega (arith, h, l)) }

@@ -13,7 +13,7 @@ use decoder::FeedAnswer;
 use decoder_bytes::STATE_LEN;
 use report_numbers::FedAnswer;
 
-// A call that used and reported nothing.
+// A refused call, which used and reported nothing.
 fn refused_feed(number: u8) -> FedAnswer
     ensures { λ r. ⌜ r ≡ refusedFeed number ⌝ }
 {
@@ -76,7 +76,7 @@ fn idle_feed(idle: usize, state: &mut [u8], bytes: &[u8]) -> FedAnswer
     ensures { λ r. ⌜ Idled idle (now (bytes .entry)) r (now (state .entry)) (now (state .exit)) ⌝ }
 {
     if 256 <= idle {
-        return refused_feed(0);
+        return at_once::quiet_answer(0);
     }
     if at_once::realtime_leads(bytes) {
         return at_once::realtime_answer(bytes[0], 1);
@@ -104,7 +104,7 @@ fn one_feed(idle: usize, at: usize, state: &mut [u8], store: &mut [u8], bytes: &
     ensures { λ r. ⌜ OneFed idle at (now (state .entry)) (now (store .entry)) (now (bytes .entry)) r (now (state .exit)) (now (store .exit)) ⌝ }
 {
     if idle < 256 {
-        return refused_feed(0);
+        return at_once::quiet_answer(0);
     }
     frame_calls::one_byte(at, state, store, bytes)
 }

@@ -130,5 +130,5 @@ pub fn plain_call(
     let status = decoder_bytes::running(at.status);
     let d = decoder_bytes::outside(status, at.have, at.first, state[13]);
     decoder_bytes::put_state(d, state);
-    frame_calls::quiet_answer(used)
+    at_once::quiet_answer(used)
 }

@@ -5,11 +5,11 @@ use borrow.Author.Needs.{needs}
 use Rattle.at_once.proofs.answer.Statement.{statement}
 use Rattle.at_once.proofs.answer.Tie as tie
 
-none-requires : tie.Need-none-requires
-none-requires c κs = search needs
+quiet-answer-requires : tie.Need-quiet-answer-requires
+quiet-answer-requires c κs = search needs
 
 returns : tie.Need-returns
-returns c = no-bytes ((c .before .before .before .before .args) .status) ((c .before .before .before .before .args) .bytes .now) _ _ ((c .before .if1) .taken) ((c .none) .ensures)
+returns c = no-bytes ((c .before .before .before .before .args) .status) ((c .before .before .before .before .args) .bytes .now) _ _ ((c .before .if1) .taken) ((c .quiet-answer) .ensures)
 
 shared-slice-read-byte : tie.Need-shared-slice-read-byte
 shared-slice-read-byte c = search needs
@@ -36,7 +36,7 @@ pub answer-spec : {M : Type 1} → statement M
 answer-spec =
     tie.close
     (tie.spec
-    none-requires
+    quiet-answer-requires
     returns
     shared-slice-read-byte
     whole-at-requires

@@ -13,11 +13,11 @@ use Rattle.at_once.proofs.pair.Tie as tie
 add-if1 : tie.Need-add-if1
 add-if1 c = search needs
 
-none-requires : tie.Need-none-requires
-none-requires c κs = search needs
+quiet-answer-requires : tie.Need-quiet-answer-requires
+quiet-answer-requires c κs = search needs
 
 returns : tie.Need-returns
-returns c = no-pair ((c .before .before .before .before .args) .status) ((c .before .before .before .before .args) .at) ((c .before .before .before .before .args) .bytes .now) _ _ (too-few 2 ((c .before .before .before .before .args) .at) ((c .before .before .before .before .args) .bytes .now) (omega arith) ((c .before .if1) .taken)) ((c .none) .ensures)
+returns c = no-pair ((c .before .before .before .before .args) .status) ((c .before .before .before .before .args) .at) ((c .before .before .before .before .args) .bytes .now) _ _ (too-few 2 ((c .before .before .before .before .args) .at) ((c .before .before .before .before .args) .bytes .now) (omega arith) ((c .before .if1) .taken)) ((c .quiet-answer) .ensures)
 
 shared-slice-read-first : tie.Need-shared-slice-read-first
 shared-slice-read-first c = search needs
@@ -28,17 +28,17 @@ add-second c = search needs
 shared-slice-read-second : tie.Need-shared-slice-read-second
 shared-slice-read-second c = search needs
 
-none-requires-2 : tie.Need-none-requires-2
-none-requires-2 c κs = search needs
+quiet-answer-requires-2 : tie.Need-quiet-answer-requires-2
+quiet-answer-requires-2 c κs = search needs
 
 returns-2 : tie.Need-returns-2
-returns-2 c = no-pair ((c .before .before .before .before .before .before .before .args) .status) ((c .before .before .before .before .before .before .before .args) .at) ((c .before .before .before .before .before .before .before .args) .bytes .now) _ _ (first-high ((c .before .before .before .before .before .before .before .args) .at) ((c .before .before .before .before .before .before .before .args) .bytes .now) 2 (omega arith) ((c .before .if2) .taken)) ((c .none2) .ensures)
+returns-2 c = no-pair ((c .before .before .before .before .before .before .before .args) .status) ((c .before .before .before .before .before .before .before .args) .at) ((c .before .before .before .before .before .before .before .args) .bytes .now) _ _ (first-high ((c .before .before .before .before .before .before .before .args) .at) ((c .before .before .before .before .before .before .before .args) .bytes .now) 2 (omega arith) ((c .before .if2) .taken)) ((c .quiet-answer2) .ensures)
 
-none-requires-3 : tie.Need-none-requires-3
-none-requires-3 c κs = search needs
+quiet-answer-requires-3 : tie.Need-quiet-answer-requires-3
+quiet-answer-requires-3 c κs = search needs
 
 returns-3 : tie.Need-returns-3
-returns-3 c = no-pair ((c .before .before .before .before .before .before .before .before .args) .status) ((c .before .before .before .before .before .before .before .before .args) .at) ((c .before .before .before .before .before .before .before .before .args) .bytes .now) _ _ (broken-at 2 ((c .before .before .before .before .before .before .before .before .args) .at) ((c .before .before .before .before .before .before .before .before .args) .bytes .now) 1 (omega arith) ((c .before .if3) .taken)) ((c .none3) .ensures)
+returns-3 c = no-pair ((c .before .before .before .before .before .before .before .before .args) .status) ((c .before .before .before .before .before .before .before .before .args) .at) ((c .before .before .before .before .before .before .before .before .args) .bytes .now) _ _ (broken-at 2 ((c .before .before .before .before .before .before .before .before .args) .at) ((c .before .before .before .before .before .before .before .before .args) .bytes .now) 1 (omega arith) ((c .before .if3) .taken)) ((c .quiet-answer3) .ensures)
 
 outside-requires : tie.Need-outside-requires
 outside-requires c κs = search needs
@@ -65,14 +65,14 @@ pair-spec =
     tie.close
     (tie.spec
     add-if1
-    none-requires
+    quiet-answer-requires
     returns
     shared-slice-read-first
     add-second
     shared-slice-read-second
-    none-requires-2
+    quiet-answer-requires-2
     returns-2
-    none-requires-3
+    quiet-answer-requires-3
     returns-3
     outside-requires
     put-state-requires

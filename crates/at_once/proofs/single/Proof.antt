@@ -13,20 +13,20 @@ use Rattle.at_once.proofs.single.Tie as tie
 add-if1 : tie.Need-add-if1
 add-if1 c = search needs
 
-none-requires : tie.Need-none-requires
-none-requires c κs = search needs
+quiet-answer-requires : tie.Need-quiet-answer-requires
+quiet-answer-requires c κs = search needs
 
 returns : tie.Need-returns
-returns c = no-single ((c .before .before .before .before .args) .status) ((c .before .before .before .before .args) .at) ((c .before .before .before .before .args) .bytes .now) _ _ (too-few 1 ((c .before .before .before .before .args) .at) ((c .before .before .before .before .args) .bytes .now) (omega arith) ((c .before .if1) .taken)) ((c .none) .ensures)
+returns c = no-single ((c .before .before .before .before .args) .status) ((c .before .before .before .before .args) .at) ((c .before .before .before .before .args) .bytes .now) _ _ (too-few 1 ((c .before .before .before .before .args) .at) ((c .before .before .before .before .args) .bytes .now) (omega arith) ((c .before .if1) .taken)) ((c .quiet-answer) .ensures)
 
 shared-slice-read-only : tie.Need-shared-slice-read-only
 shared-slice-read-only c = search needs
 
-none-requires-2 : tie.Need-none-requires-2
-none-requires-2 c κs = search needs
+quiet-answer-requires-2 : tie.Need-quiet-answer-requires-2
+quiet-answer-requires-2 c κs = search needs
 
 returns-2 : tie.Need-returns-2
-returns-2 c = no-single ((c .before .before .before .before .before .before .args) .status) ((c .before .before .before .before .before .before .args) .at) ((c .before .before .before .before .before .before .args) .bytes .now) _ _ (first-high ((c .before .before .before .before .before .before .args) .at) ((c .before .before .before .before .before .before .args) .bytes .now) 1 (omega arith) ((c .before .if2) .taken)) ((c .none2) .ensures)
+returns-2 c = no-single ((c .before .before .before .before .before .before .args) .status) ((c .before .before .before .before .before .before .args) .at) ((c .before .before .before .before .before .before .args) .bytes .now) _ _ (first-high ((c .before .before .before .before .before .before .args) .at) ((c .before .before .before .before .before .before .args) .bytes .now) 1 (omega arith) ((c .before .if2) .taken)) ((c .quiet-answer2) .ensures)
 
 slice-read-outside : tie.Need-slice-read-outside
 slice-read-outside c = search needs
@@ -56,10 +56,10 @@ single-spec =
     tie.close
     (tie.spec
     add-if1
-    none-requires
+    quiet-answer-requires
     returns
     shared-slice-read-only
-    none-requires-2
+    quiet-answer-requires-2
     returns-2
     slice-read-outside
     outside-requires

@@ -6,11 +6,11 @@ use borrow.Author.Needs.{needs}
 use Rattle.at_once.proofs.whole_at.Statement.{statement}
 use Rattle.at_once.proofs.whole_at.Tie as tie
 
-none-requires : tie.Need-none-requires
-none-requires c κs = search needs
+quiet-answer-requires : tie.Need-quiet-answer-requires
+quiet-answer-requires c κs = search needs
 
 returns : tie.Need-returns
-returns c = too-low ((c .before .before .before .before .args) .status) ((c .before .before .before .before .args) .at) ((c .before .before .before .before .args) .bytes .now) _ _ ((c .before .if1) .taken) ((c .none) .ensures)
+returns c = too-low ((c .before .before .before .before .args) .status) ((c .before .before .before .before .args) .at) ((c .before .before .before .before .args) .bytes .now) _ _ ((c .before .if1) .taken) ((c .quiet-answer) .ensures)
 
 pair-requires : tie.Need-pair-requires
 pair-requires c κs = search needs
@@ -39,17 +39,17 @@ same-length-3 c = search needs
 returns-4 : tie.Need-returns-4
 returns-4 c = pair-whole ((c .before .before .before .before .before .before .before .before .before .before .args) .status) ((c .before .before .before .before .before .before .before .before .before .before .args) .at) ((c .before .before .before .before .before .before .before .before .before .before .args) .bytes .now) _ _ _ (omega arith) (omega arith) (two-high ((c .before .before .before .before .before .before .before .before .before .before .args) .status) (omega arith) (omega arith)) ((c .before .before .pair2) .ensures)
 
-none-requires-2 : tie.Need-none-requires-2
-none-requires-2 c κs = search needs
+quiet-answer-requires-2 : tie.Need-quiet-answer-requires-2
+quiet-answer-requires-2 c κs = search needs
 
 returns-5 : tie.Need-returns-5
-returns-5 c = too-high ((c .before .before .before .before .before .before .before .args) .status) ((c .before .before .before .before .before .before .before .args) .at) ((c .before .before .before .before .before .before .before .args) .bytes .now) _ _ (omega arith) ((c .none2) .ensures)
+returns-5 c = too-high ((c .before .before .before .before .before .before .before .args) .status) ((c .before .before .before .before .before .before .before .args) .at) ((c .before .before .before .before .before .before .before .args) .bytes .now) _ _ (omega arith) ((c .quiet-answer2) .ensures)
 
 pub whole-at-spec : {M : Type 1} → statement M
 whole-at-spec =
     tie.close
     (tie.spec
-    none-requires
+    quiet-answer-requires
     returns
     pair-requires
     same-length
@@ -60,5 +60,5 @@ whole-at-spec =
     pair-requires-2
     same-length-3
     returns-4
-    none-requires-2
+    quiet-answer-requires-2
     returns-5)

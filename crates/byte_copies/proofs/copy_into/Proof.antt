@@ -1,10 +1,10 @@
 -- `copy_into` meets its contract: the words, then the rest.
-use Rattle.byte_copies.proofs.Copies.{copied, length-copied, front-copied, behind-copied}
+use Rattle.byte_copies.proofs.Copies.{length-copied, front-copied, behind-copied}
 use lib.ListN.{length, take, drop}
 use native.Mathlib.Omega.{arith}
-use Prim.Native.Nat.{ℕ, _≤_, _*_, _/_}
+use Prim.Native.Nat.{ℕ, _*_, _/_}
 use mathlib.Core.List.{List, _++_}
-use mathlib.Core.Path.{_≡_, ap, sym, _∙_}
+use mathlib.Core.Path.{ap, _∙_}
 use borrow.Author.Needs.{needs}
 use Rattle.byte_copies.proofs.copy_into.Statement.{statement}
 use Rattle.byte_copies.proofs.copy_into.Tie as tie

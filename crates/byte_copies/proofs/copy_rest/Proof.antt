@@ -1,9 +1,9 @@
 -- `copy_rest` meets its contract: before each turn i bytes more behind the words are those of from.
 use Rattle.byte_copies.proofs.Copies.{copied, copied-front, copied-more, copied-all}
-use lib.ListN.{length, set, length-set}
+use lib.ListN.{length, length-set}
 use native.Mathlib.Omega.{arith}
 use native.Mathlib.Nat.{add-zero}
-use Prim.Native.Nat.{ℕ, _+_, _≤_, _-_, _*_, _/_, _%_}
+use Prim.Native.Nat.{_+_, _≤_, _-_, _*_, _/_, _%_}
 use mathlib.Core.Path.{_≡_, refl, ap, sym, _∙_}
 use Rattle.byte_copies.proofs.copy_rest.Statement.{statement}
 use Rattle.byte_copies.proofs.copy_rest.Tie as tie

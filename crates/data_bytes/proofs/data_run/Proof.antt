@@ -4,7 +4,6 @@ use Rattle.data_bytes.specs.Data.{dataRun}
 use native.Mathlib.Omega.{arith}
 use lib.ListN.{length}
 use Prim.Native.Nat.{_≤_, _-_}
-use mathlib.Core.Path.{_≡_}
 use Rattle.data_bytes.proofs.data_run.Statement.{statement}
 use Rattle.data_bytes.proofs.data_run.Tie as tie
 

@@ -1,6 +1,5 @@
 -- `tops` meets its contract: the mask leaves the top bits of the joined word.
 use Rattle.data_bytes.proofs.Words.{tops-left}
-use mathlib.Core.Path.{_≡_}
 use native.Mathlib.Omega.{arith}
 use borrow.Author.Needs.{needs}
 use Rattle.data_bytes.proofs.tops.Statement.{statement}

@@ -7,11 +7,11 @@ use borrow.Author.Needs.{needs}
 use Rattle.host_stream.proofs.idle_feed.Statement.{statement}
 use Rattle.host_stream.proofs.idle_feed.Tie as tie
 
-refused-feed-requires : tie.Need-refused-feed-requires
-refused-feed-requires c κs = search needs
+quiet-answer-requires : tie.Need-quiet-answer-requires
+quiet-answer-requires c κs = search needs
 
 returns : tie.Need-returns
-returns c = not-idle ((c .before .before .before .before .args) .idle) ((c .before .before .before .before .args) .bytes .now) _ ((c .before .before .before .before .args) .state .now) ((c .refused-feed) .ensures)
+returns c = not-idle ((c .before .before .before .before .args) .idle) ((c .before .before .before .before .args) .bytes .now) _ ((c .before .before .before .before .args) .state .now) ((c .quiet-answer) .ensures)
 
 realtime-leads-requires : tie.Need-realtime-leads-requires
 realtime-leads-requires c κs = search needs
@@ -41,7 +41,7 @@ pub idle-feed-spec : {M : Type 1} → statement M
 idle-feed-spec =
     tie.close
     (tie.spec
-    refused-feed-requires
+    quiet-answer-requires
     returns
     realtime-leads-requires
     shared-slice-read-realtime-answer

@@ -5,11 +5,11 @@ use borrow.Author.Needs.{needs}
 use Rattle.host_stream.proofs.one_feed.Statement.{statement}
 use Rattle.host_stream.proofs.one_feed.Tie as tie
 
-refused-feed-requires : tie.Need-refused-feed-requires
-refused-feed-requires c κs = search needs
+quiet-answer-requires : tie.Need-quiet-answer-requires
+quiet-answer-requires c κs = search needs
 
 returns : tie.Need-returns
-returns c = not-one-fed ((c .before .before .before .before .before .args) .idle) ((c .before .before .before .before .before .args) .at) ((c .before .before .before .before .before .args) .state .now) ((c .before .before .before .before .before .args) .store .now) ((c .before .before .before .before .before .args) .bytes .now) _ ((c .refused-feed) .ensures)
+returns c = not-one-fed ((c .before .before .before .before .before .args) .idle) ((c .before .before .before .before .before .args) .at) ((c .before .before .before .before .before .args) .state .now) ((c .before .before .before .before .before .args) .store .now) ((c .before .before .before .before .before .args) .bytes .now) _ ((c .quiet-answer) .ensures)
 
 one-byte-requires : tie.Need-one-byte-requires
 one-byte-requires c κs = search needs
@@ -26,4 +26,4 @@ returns-2 c = one-fed ((c .before .before .before .before .before .before .befor
 pub one-feed-spec : {M : Type 1} → statement M
 one-feed-spec =
     tie.close
-    (tie.spec refused-feed-requires returns one-byte-requires same-length same-length-2 returns-2)
+    (tie.spec quiet-answer-requires returns one-byte-requires same-length same-length-2 returns-2)
