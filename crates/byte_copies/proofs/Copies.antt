@@ -58,7 +58,3 @@ behind-copied from to n j h e =
     ∙ drop-append-add (take n from) (drop n to) (j - n)
     ∙ drop-drop (j - n) n to
     ∙ ap (λ (k : ℕ). drop k to) place
-
--- copied further
-pub copied-further : (from to : List ℕ) (n j : ℕ) → n ≤ length from → n ≤ j → copied from (copied from to n) j ≡ copied from to j
-copied-further from to n j h e = ap (λ (l : List ℕ). take j from ++ l) (behind-copied from to n j h e)

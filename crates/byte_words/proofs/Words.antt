@@ -4,7 +4,7 @@ use mathlib.Core.List.{List}
 use Prim.Native.Nat.{ℕ, _+_, _/_, _%_, _<_}
 use native.Mathlib.Omega.{arith}
 use lib.ListN.{getD, set}
-use Rattle.byte_words.specs.Words.{word, wordAt, putWord}
+use Rattle.byte_words.specs.quick.Words.{word, wordAt, putWord}
 
 -- a word's bytes again
 module _ (a b c d e f g h : ℕ)

@@ -2,7 +2,7 @@
 ghost use mathlib.Core.Path.{_≡_};
 ghost use Prim.Native.Nat.{_+_, _≤_};
 ghost use lib.ListN.{length};
-ghost use Rattle.byte_words.specs.Words.{word, wordAt, putWord};
+ghost use Rattle.byte_words.specs.quick.Words.{word, wordAt, putWord};
 
 // Bytes in a word.
 pub const WORD: usize = 8;

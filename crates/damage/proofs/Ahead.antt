@@ -9,8 +9,9 @@ use borrow.Author.Tests.{lt-ltb, le-ltb}
 use Rattle.decoder.specs.declared.Class.{Class}
 use Rattle.decoder.specs.declared.Class.the-variants as k
 use Rattle.decoder.proofs.Classes.{Range}
-use Rattle.damage.specs.Open.{later, lastStatus, dataSince}
-use Rattle.damage.specs.History.{Told, heard, meaning}
+use Rattle.damage.specs.Open.{pastAfter, lastStatus, dataSince}
+use Rattle.damage.specs.Reported.{Reported}
+use Rattle.damage.specs.History.{heard, meaning}
 
 abbrev pub nextStatus : Class → ℕ → ℕ → ℕ
 nextStatus k.Data status b = status
@@ -45,13 +46,13 @@ ahead k.End past b h = replaces past b (omega arith) (omega arith)
 ahead k.Realtime past b h = (rw (le-ltb b 0x80 (omega arith), le-ltb b 0xF8 h), rw (le-ltb b 0x80 (omega arith), le-ltb b 0xF8 h))
 
 -- history of bytes one behind another
-pub meaning-append : (past xs ys : List ℕ) → meaning past (xs ++ ys) ≡ meaning past xs ++ meaning (later past xs) ys
+pub meaning-append : (past xs ys : List ℕ) → meaning past (xs ++ ys) ≡ meaning past xs ++ meaning (pastAfter past xs) ys
 unfolding meaning
 meaning-append past [] ys = refl
-meaning-append past (x ∷ xs) ys = ap (λ (l : List (List Told)). heard (lastStatus past) (dataSince past) x ∷ l) (meaning-append (x ∷ past) xs ys)
+meaning-append past (x ∷ xs) ys = ap (λ (l : List (List Reported)). heard (lastStatus past) (dataSince past) x ∷ l) (meaning-append (x ∷ past) xs ys)
 
 pub meaning-take : (past xs : List ℕ) (n : ℕ) → meaning past (take n xs) ≡ take n (meaning past xs)
 unfolding meaning
 meaning-take past xs zero = refl
 meaning-take past [] (suc n) = refl
-meaning-take past (x ∷ xs) (suc n) = ap (λ (l : List (List Told)). heard (lastStatus past) (dataSince past) x ∷ l) (meaning-take (x ∷ past) xs n)
+meaning-take past (x ∷ xs) (suc n) = ap (λ (l : List (List Reported)). heard (lastStatus past) (dataSince past) x ∷ l) (meaning-take (x ∷ past) xs n)

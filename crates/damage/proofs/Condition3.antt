@@ -1,30 +1,29 @@
--- Condition 3, whole. A list of calls reports what history says of the bytes that arrive. Before the run history sees what was sent.
--- The first message wholly after the run begins with its own status byte, from which on history has forgotten the break: only
--- whether a frame is open there is left to be told.
+-- Condition 3 of every caller whose calls report what history says, because history says of all that arrives just what condition 3 asks for.
+-- Before the run it sees what was sent. The first message wholly after the run begins with its own status byte, from which on history has
+-- forgotten the break: only whether a frame is open there is left to be told.
 use mathlib.Core.Path.{_≡_, refl, sym, _∙_, ap, ap₂, subst}
 use mathlib.Core.Bool.{Bool, true, false}
 use mathlib.Core.List.{List, [], _∷_, _++_, map, append-assoc}
-use mathlib.Core.Logic.{_⊎_, ⊎-elim}
+use mathlib.Core.Logic.{⊎-elim}
 use Prim.Native.Nat.{ℕ, zero, suc, _+_, _≤_, _<_}
 use native.Mathlib.Omega.{arith}
 use lib.ListN.{length, take, drop}
 use Rattle.laws.specs.Choice.{pick}
 use Rattle.decoder.specs.declared.Class.{Class}
 use Rattle.decoder.specs.declared.Class.the-variants as k
-use Rattle.decoder.specs.declared.Decoder.{Decoder}
-use Rattle.decoder.specs.State.{limit, fresh, reset}
 use Rattle.decoder.specs.Step.{classOf}
 use Rattle.decoder.proofs.Classes.{Range, range-of}
-use Rattle.damage.specs.Open.{later, lastStatus, dataSince, isOpen, openAt}
-use Rattle.damage.specs.History.{Told, interrupted, interruption, heardIn, heard, meaning}
+use Rattle.damage.specs.Open.{pastAfter, lastStatus, dataSince, isOpen, openAt}
+use Rattle.damage.specs.Reported.{Reported, report18}
+use Rattle.damage.specs.History.{interruption, heardIn, heard, meaning}
 use Rattle.damage.specs.Sent.{Message, allSendable, Tag, allTagged, Sent, bytes, intacts}
-use Rattle.damage.specs.Damage.{before, behind, arrives, fromFirst, untilFirst, breakBytes, causes, led, expected}
-use Rattle.damage.specs.Calls.{Call, Heard, calls, total, paced}
+use Rattle.damage.specs.Damage.{beforeRun, afterRun, arrives, fromFirst, untilFirst, breakBytes, led, aroundBreak}
+use Rattle.damage.specs.Caller.{Caller, Exactly}
+use Rattle.damage.specs.Meaning.{CallsMean, causes, Condition3Fixed}
+use Rattle.damage.specs.Condition3.{Condition3}
 use Rattle.damage.proofs.Ahead.{nextStatus, nextData, ahead, meaning-append, meaning-take}
 use Rattle.damage.proofs.MessagesRead.{Reads, messages-read}
 use Rattle.damage.proofs.Woven.{woven, sent-behind, Begins, begins, whole-behind, begins-with-status}
-use Rattle.damage.proofs.HistoryIsStep.{cleared-matches, history-is-step}
-use Rattle.damage.proofs.Chunking.{chunking}
 
 map-take : {A B : Type 0} (f : A → B) (l : List A) (n : ℕ) → map f (take n l) ≡ take n (map f l)
 map-take f l zero = refl
@@ -45,7 +44,7 @@ alone : (t : Bool) → interruption t ≡ interruption t ++ []
 alone true = refl
 alone false = refl
 
-in-front : (t : Bool) (x : List Told) → interruption t ++ x ≡ pick t (interrupted ∷ x) x
+in-front : (t : Bool) (x : List Reported) → interruption t ++ x ≡ pick t (report18 ∷ x) x
 in-front true x = refl
 in-front false x = refl
 
@@ -71,8 +70,8 @@ begun-read t ts us low high r w past =
     let xs = dataSince past in
     let lead = led-by c v xs b (range-of b) low high in
     let same = ahead c past b (range-of b) in
-    ap₂ (λ (x : List Told) (rest : List (List Told)). x ∷ rest)
-    (lead .0 ∙ ap (λ (x : List Told). interruption (isOpen v xs) ++ x) (r .0) ∙ in-front (isOpen v xs) (t .intact))
+    ap₂ (λ (x : List Reported) (rest : List (List Reported)). x ∷ rest)
+    (lead .0 ∙ ap (λ (x : List Reported). interruption (isOpen v xs) ++ x) (r .0) ∙ in-front (isOpen v xs) (t .intact))
     (woven w (b ∷ past) (rw (same .0 ∙ lead .1, same .1 ∙ lead .2) (r .1)))
 
 -- from the first message on
@@ -93,60 +92,52 @@ rest-read ms ok j us w past = ⊎-elim none some (begins w)
         rw (r .is)
         (begun-read (r .head) (r .own-rest) (r .rest) (range .0) (range .1) (subst (λ (l : List Tag). Reads 0 [] l) same reads) (r .sent) past)
 
--- what history says of all that arrives is what condition 3 asks for
+-- what history says of all that arrives
 pub history-of-damage : (ms : List Message) → allSendable ms ≡ true → (sent : List Tag) → Sent (allTagged ms) sent → (i n : ℕ) (new : List ℕ)
-    → meaning [] (arrives i n new sent) ≡ expected i n new sent
+    → meaning [] (arrives i n new sent) ≡ aroundBreak i n new sent (causes i n new sent)
 history-of-damage ms ok sent w i n new =
-    ap (λ (l : List ℕ). meaning [] (B ++ l)) (ap (λ (l : List ℕ). new ++ l) (bytes-split (behind i n sent)) ∙ sym (append-assoc new U F))
+    ap (λ (l : List ℕ). meaning [] (B ++ l)) (ap (λ (l : List ℕ). new ++ l) (bytes-split (afterRun i n sent)) ∙ sym (append-assoc new U F))
     ∙ meaning-append [] B (K ++ F)
-    ∙ ap₂ (λ (x y : List (List Told)). x ++ y) intact-before
-    (meaning-append (later [] B) K F
-    ∙ ap (λ (y : List (List Told)). causes i n new sent ++ y) (rest-read ms ok (cut .0) (behind i n sent) (cut .1) (later (later [] B) K)))
+    ∙ ap₂ (λ (x y : List (List Reported)). x ++ y) intact-before
+    (meaning-append (pastAfter [] B) K F
+    ∙ ap (λ (y : List (List Reported)). causes i n new sent ++ y) (rest-read ms ok (cut .0) (afterRun i n sent) (cut .1) (pastAfter (pastAfter [] B) K)))
   where
     B : List ℕ
-    B = bytes (before i sent)
+    B = bytes (beforeRun i sent)
 
     U : List ℕ
-    U = bytes (untilFirst (behind i n sent))
+    U = bytes (untilFirst (afterRun i n sent))
 
     F : List ℕ
-    F = bytes (fromFirst (behind i n sent))
+    F = bytes (fromFirst (afterRun i n sent))
 
     K : List ℕ
     K = breakBytes i n new sent
 
-    cut : (j : ℕ) × Sent (drop j (allTagged ms)) (behind i n sent)
+    cut : (j : ℕ) × Sent (drop j (allTagged ms)) (afterRun i n sent)
     cut = sent-behind w (i + n)
 
-    intact-before : meaning [] B ≡ intacts (before i sent)
+    intact-before : meaning [] B ≡ intacts (beforeRun i sent)
     intact-before =
         ap (meaning []) (map-take (λ (t : Tag). t .byte) sent i) ∙ meaning-take [] (bytes sent) i
         ∙ ap (take i) (woven w [] (messages-read ms ok 0 [] refl)) ∙ sym (map-take (λ (t : Tag). t .intact) sent i)
 
--- what a list of calls comes to if each byte to come reports so: its reports as far as bytes were used, and how many each call used
-abbrev pub Reports : List Call → List (List Told) → Heard → Type 0
-Reports cs coming h = (h .reports ≡ take (total (h .answers)) coming) × (h .answers ≡ paced cs coming)
+-- what the break causes: one entry for each byte of the break
+meaning-length : (past xs : List ℕ) → length (meaning past xs) ≡ length xs
+unfolding meaning
+meaning-length past [] = refl
+meaning-length past (x ∷ xs) = ap suc (meaning-length (x ∷ past) xs)
 
--- the same from any state that a reset leaves
-pub condition-3-after-reset : (d : Decoder) (ms : List Message) → allSendable ms ≡ true → (sent : List Tag) → Sent (allTagged ms) sent
-    → (i n : ℕ) (new store : List ℕ) → limit ≤ length store → (cs : List Call)
-    → Reports cs (expected i n new sent) (calls cs (reset d) store (arrives i n new sent))
-condition-3-after-reset d ms ok sent w i n new store room cs =
-    let came = arrives i n new sent in
-    let r = chunking cs (reset d) store came refl room in
-    let says = history-is-step [] (reset d) store came (cleared-matches d store room) ∙ history-of-damage ms ok sent w i n new in (
-      r .1 ∙ ap (take (total (calls cs (reset d) store came .answers))) says,
-      r .0 ∙ ap (paced cs) says,
-    )
+-- CONDITION 3 of any caller, with what the break causes fixed by history
+pub condition-3-fixed : (c : Caller) (start : c .State) → CallsMean c start → Condition3Fixed c start
+condition-3-fixed c start mean ms ok sent w i n new store room cs log made =
+    subst (λ (l : List (List Reported)). Exactly cs l log) (history-of-damage ms ok sent w i n new) (mean store room _ cs log made)
 
--- CONDITION 3. For all in-range messages of at most the frame limit's length, sent with real-time bytes anywhere; for every run of
--- n bytes from place i on and everything that comes in its place; for every store of at least the limit's length, whatever it
--- holds; and for every list of calls from a fresh decoder, refused ones included: the reports, byte by byte and as far as bytes
--- were used, are exactly the expected ones; and each call used its bytes up to the first that reports, or all, or was lent too
--- short a store and refused with 20
-pub condition-3 : (ms : List Message) → allSendable ms ≡ true → (sent : List Tag) → Sent (allTagged ms) sent → (i n : ℕ) (new store : List ℕ)
-    → limit ≤ length store → (cs : List Call)
-    → (calls cs fresh store (arrives i n new sent) .reports
-    ≡ take (total (calls cs fresh store (arrives i n new sent) .answers)) (expected i n new sent))
-    × (calls cs fresh store (arrives i n new sent) .answers ≡ paced cs (expected i n new sent))
-condition-3 = condition-3-after-reset fresh
+-- CONDITION 3 of any caller, as the paper has it
+pub condition-3 : (c : Caller) (start : c .State) → CallsMean c start → Condition3 c start
+condition-3 c start mean ms ok sent w i n new store room cs log made =
+    record {
+      caused = causes i n new sent;
+      one-each = meaning-length (pastAfter [] (bytes (beforeRun i sent))) (breakBytes i n new sent);
+      exactly = condition-3-fixed c start mean ms ok sent w i n new store room cs log made;
+    }

@@ -6,7 +6,7 @@ use mathlib.Core.Bool.{true, false}
 use mathlib.Core.List.{List, [], _∷_}
 use Prim.Native.Nat.{ℕ, _≤_, _<_}
 use native.Mathlib.Omega.{arith}
-use lib.ListN.{length, take}
+use lib.ListN.{length}
 use Rattle.refusal.specs.Outcome.{gives, refused}
 use Rattle.wire.specs.Status.{dataLength}
 use Rattle.channel_message.specs.declared.ChannelMessage.the-variants as w
@@ -14,10 +14,13 @@ use Rattle.real_time.specs.declared.Realtime.the-variants as t
 use Rattle.decoder.specs.State.{limit, fresh}
 use Rattle.decoder.specs.Step.{classOf}
 use Rattle.decoder.specs.Reports.{channel, realtime, frame}
-use Rattle.damage.specs.History.{Told, interrupted, heard, message, meaning}
+use Rattle.damage.specs.Reported.{Reported, report18}
+use Rattle.damage.specs.History.{heard, message, meaning}
 use Rattle.damage.specs.Sent.{Message, Voice, Frame, allTagged, Tag, realtimeTag, Sent, nothing, own, between}
-use Rattle.damage.specs.Calls.{Call, give, lend-short, calls, total, paced}
-use Rattle.damage.proofs.Condition3.{condition-3}
+use Rattle.damage.specs.Caller.{Call, give, lend-short, CallLog, Made, paced, Exactly}
+use Rattle.damage.specs.Untouched.{ownPlaces, sentMessages, untouchedReports, within}
+use Rattle.damage.specs.Calls.{byValue}
+use Rattle.damage.proofs.ByValue.{by-value}
 
 abbrev pub messages : List Message
 messages = Voice (record { 0 = 0 }) (w.NoteOn 60 64) ∷ Frame (1 ∷ 2 ∷ []) ∷ Voice (record { 0 = 1 }) (w.ProgramChange 5) ∷ []
@@ -38,31 +41,40 @@ sent =
     ∷ []
 
 -- it is what a sender may send
-is-sent : Sent (allTagged messages) sent
+abbrev pub is-sent : Sent (allTagged messages) sent
 is-sent = own (own (own (between 0xF8 (omega arith) (own (own (own (own (own (own nothing)))))))))
 
 abbrev pub arrived : List ℕ
 arrived = 0x90 ∷ 0xF0 ∷ 0x07 ∷ 0xF8 ∷ 0xF0 ∷ 0x01 ∷ 0x02 ∷ 0xF7 ∷ 0xC1 ∷ 0x05 ∷ []
 
 -- byte by byte: 90 before the run; the break's F0, 07 and the clock; then the frame's F0 with its 18, and all that is intact
-abbrev pub reported : List (List Told)
+abbrev pub reported : List (List Reported)
 reported =
     []
     ∷ [] ∷ [] ∷ (gives (realtime t.Clock) ∷ [])
-    ∷ (interrupted ∷ []) ∷ [] ∷ [] ∷ (gives (frame (0xF0 ∷ 0x01 ∷ 0x02 ∷ 0xF7 ∷ [])) ∷ [])
+    ∷ (report18 ∷ []) ∷ [] ∷ [] ∷ (gives (frame (0xF0 ∷ 0x01 ∷ 0x02 ∷ 0xF7 ∷ [])) ∷ [])
     ∷ [] ∷ (gives (channel (record { 0 = 1 }) (w.ProgramChange 5)) ∷ [])
     ∷ []
 
-pub worked-example : (store : List ℕ) → limit ≤ length store → (cs : List Call)
-    → (calls cs fresh store arrived .reports ≡ take (total (calls cs fresh store arrived .answers)) reported)
-    × (calls cs fresh store arrived .answers ≡ paced cs reported)
+pub worked-example : (store : List ℕ) → limit ≤ length store → (cs : List (Call byValue)) (log : CallLog) → Made byValue cs fresh store arrived log
+    → Exactly cs reported log
 unfolding meaning heard message classOf dataLength limit
-worked-example store room cs = condition-3 messages refl sent is-sent 1 2 (0xF0 ∷ 0x07 ∷ []) store room cs
+worked-example store room cs log made = by-value fresh .condition-3-fixed messages refl sent is-sent 1 2 (0xF0 ∷ 0x07 ∷ []) store room cs log made
 
 -- three bytes, a call that is lent no store at all, and then all that is left, again and again: each call stops at the first byte
 -- that reports
 pub worked-calls : (short : 0 < limit)
-    → paced (give 3 ∷ lend-short [] arrived short ∷ give 10 ∷ give 10 ∷ give 10 ∷ give 10 ∷ give 10 ∷ []) reported
+    → paced {c = byValue} (give 3 ∷ lend-short [] arrived short ∷ give 10 ∷ give 10 ∷ give 10 ∷ give 10 ∷ give 10 ∷ []) reported
     ≡ gives 3 ∷ refused 20 [] ∷ gives 1 ∷ gives 1 ∷ gives 3 ∷ gives 2 ∷ gives 0 ∷ []
 unfolding paced
 worked-calls short = refl
+
+-- the note is hit; the frame and the program change are untouched, and end with the bytes at places 7 and 9 of what arrives. Nine bytes hold
+-- the first of the two reports
+pub worked-untouched :
+    (untouchedReports 1 2 (0xF0 ∷ 0x07 ∷ []) (sentMessages messages (ownPlaces is-sent 0))
+    ≡ record { place = 7; report = gives (frame (0xF0 ∷ 0x01 ∷ 0x02 ∷ 0xF7 ∷ [])) }
+    ∷ record { place = 9; report = gives (channel (record { 0 = 1 }) (w.ProgramChange 5)) } ∷ [])
+    × (within 9 (untouchedReports 1 2 (0xF0 ∷ 0x07 ∷ []) (sentMessages messages (ownPlaces is-sent 0)))
+    ≡ record { place = 7; report = gives (frame (0xF0 ∷ 0x01 ∷ 0x02 ∷ 0xF7 ∷ [])) } ∷ [])
+worked-untouched = (refl, refl)

@@ -31,14 +31,15 @@ use Rattle.decoder.proofs.Limit.{room-for-three}
 use Rattle.decoder.proofs.Classes.{Range, range-of}
 use Rattle.decoder.proofs.SoundKept.{held-takes-data}
 use Rattle.decoder.proofs.Steps.{data-fits, data-over, data-plain, end-fits, end-over, end-plain}
-use Rattle.damage.specs.Open.{later, isOpen, lastStatus, dataSince, openAt}
-use Rattle.damage.specs.History.{Told, interruption, heardRealtime, heardData, heardIn, heard, meaning}
-use Rattle.damage.specs.Calls.{singly, stateAfter, storeAfter}
+use Rattle.damage.specs.Open.{pastAfter, isOpen, lastStatus, dataSince, openAt}
+use Rattle.damage.specs.Reported.{Reported, heardRealtime}
+use Rattle.damage.specs.History.{interruption, heardData, heardIn, heard, meaning}
+use Rattle.damage.specs.Calls.{singly, stateSingly, storeSingly}
 use Rattle.damage.proofs.Ahead.{nextStatus, nextData, ahead}
 use Rattle.damage.proofs.Matches.{held, pending, Matches, nothing-pending, data-next}
 
 -- a byte's reports, a frame's bytes read from the store that the byte leaves
-abbrev pub reportsIn : Stepped → List ℕ → List Told
+abbrev pub reportsIn : Stepped → List ℕ → List Reported
 reportsIn x store = toldAll store (reportList (x .interrupted) (x .report))
 
 -- what a step has to be: it reports what history says, and its state holds what the bytes ahead then say
@@ -246,17 +247,17 @@ pub history-is-step : (past : List ℕ) (d : Decoder) (store bytes : List ℕ) �
 unfolding singly meaning
 history-is-step past d store [] g = refl
 history-is-step past d store (b ∷ bs) g =
-    ap₂ (λ (x : List Told) (rest : List (List Told)). x ∷ rest) (byte-is-step (lastStatus past) (dataSince past) d store b g .0)
+    ap₂ (λ (x : List Reported) (rest : List (List Reported)). x ∷ rest) (byte-is-step (lastStatus past) (dataSince past) d store b g .0)
     (history-is-step (b ∷ past) (step d b .state) (stored d store b) bs (ahead-matches past d store b g))
 
--- and so it is behind any bytes
+-- the state and the store behind any bytes hold what those bytes say
 pub matches-after : (past : List ℕ) (d : Decoder) (store bytes : List ℕ) → Matches (lastStatus past) (dataSince past) d store
-    → Matches (lastStatus (later past bytes)) (dataSince (later past bytes)) (stateAfter d bytes) (storeAfter d store bytes)
+    → Matches (lastStatus (pastAfter past bytes)) (dataSince (pastAfter past bytes)) (stateSingly d bytes) (storeSingly d store bytes)
 matches-after past d store [] g = g
 matches-after past d store (b ∷ bs) g = matches-after (b ∷ past) (step d b .state) (stored d store b) bs (ahead-matches past d store b g)
 
 -- what `Decoder::in_sysex` answers: whether a frame is open at the next byte
-pub in-sysex-is-open : (bytes : List ℕ) → stateAfter fresh bytes .in_sysex ≡ openAt (later [] bytes)
+pub in-sysex-is-open : (bytes : List ℕ) → stateSingly fresh bytes .in_sysex ≡ openAt (pastAfter [] bytes)
 in-sysex-is-open bytes =
     let blank : List ℕ = replicate limit 0 in
     let room : limit ≤ length blank = omega (arith, length-replicate {A = ℕ} limit 0) in

@@ -25,7 +25,8 @@ use Rattle.decoder.specs.Step.{classOf}
 use Rattle.decoder.specs.Reports.{Event, channel, common, frame}
 use Rattle.decoder.proofs.Classes.{Range, class-is}
 use Rattle.damage.specs.Open.{isOpen}
-use Rattle.damage.specs.History.{Told, heardCommon, message, heardIn, heard}
+use Rattle.damage.specs.Reported.{Reported}
+use Rattle.damage.specs.History.{heardCommon, message, heardIn, heard}
 use Rattle.damage.specs.Sent.{Message, Voice, Common, Frame, bytesOf, sevenBit, sendable, allSendable, eventOf, Tag, tags, tagged, allTagged}
 use Rattle.damage.proofs.Ahead.{nextStatus, nextData}
 
@@ -36,7 +37,7 @@ Reads v xs (t ∷ ts) =
     (heard v xs (t .byte) ≡ t .intact) × Reads (nextStatus (classOf (t .byte)) v (t .byte)) (nextData (classOf (t .byte)) xs (t .byte)) ts
 
 -- one byte, by its class
-pub reads-as : (c : Class) (v : ℕ) (xs : List ℕ) (b : ℕ) (first : Bool) (intact : List Told) (ts : List Tag) → Range c b → heardIn c v xs b ≡ intact
+pub reads-as : (c : Class) (v : ℕ) (xs : List ℕ) (b : ℕ) (first : Bool) (intact : List Reported) (ts : List Tag) → Range c b → heardIn c v xs b ≡ intact
     → Reads (nextStatus c v b) (nextData c xs b) ts → Reads v xs (record { byte = b; first = first; intact = intact } ∷ ts)
 unfolding heard
 reads-as c v xs b first intact ts h e r = rw (class-is b c h) (e, r)

@@ -18,7 +18,8 @@ use Rattle.decoder.specs.Step.{classOf}
 use Rattle.decoder.specs.Reports.{Event}
 use Rattle.decoder.proofs.Classes.{class-is, range-of}
 use Rattle.damage.specs.Open.{lastStatus, dataSince}
-use Rattle.damage.specs.History.{Told, heardRealtime, heard, meaning}
+use Rattle.damage.specs.Reported.{Reported, heardRealtime}
+use Rattle.damage.specs.History.{heard, meaning}
 use Rattle.damage.specs.Sent.{Message, Voice, Common, Frame, bytesOf, sendable, allSendable, eventOf, Tag, tags, allTagged, realtimeTag, Sent, nothing, own, between, bytes, intacts}
 use Rattle.damage.specs.Damage.{fromFirst}
 use Rattle.damage.proofs.Ahead.{ahead}
@@ -35,10 +36,10 @@ unfolding meaning
 woven nothing past r = refl
 woven (own {t} {ts} {us} w) past r =
     let same = ahead (classOf (t .byte)) past (t .byte) (range-of (t .byte)) in
-    ap₂ (λ (x : List Told) (rest : List (List Told)). x ∷ rest) (r .0) (woven w (t .byte ∷ past) (rw (same .0, same .1) (r .1)))
+    ap₂ (λ (x : List Reported) (rest : List (List Reported)). x ∷ rest) (r .0) (woven w (t .byte ∷ past) (rw (same .0, same .1) (r .1)))
 woven (between b {ts} {us} h w) past r =
     let same = ahead k.Realtime past b h in
-    ap₂ (λ (x : List Told) (rest : List (List Told)). x ∷ rest) (realtime-heard (lastStatus past) (dataSince past) b h)
+    ap₂ (λ (x : List Reported) (rest : List (List Reported)). x ∷ rest) (realtime-heard (lastStatus past) (dataSince past) b h)
     (woven w (b ∷ past) (rw (same .0, same .1) r))
 
 -- the tags of what stands behind a place are sent too, with some of the messages' tags gone
@@ -82,7 +83,7 @@ pub record Shaped (m : Message) : Type 0 where
   pub low : 0x80 ≤ status
   pub high : status < 0xF7
 
-shaped : (m : Message) → sendable m ≡ true → Shaped m
+pub shaped : (m : Message) → sendable m ≡ true → Shaped m
 shaped (Voice c m) ok =
     let range = nibble-range m in
     let in-channel : c .0 < 16 = ltb-true _ _ (both _ _ (both _ _ ok .0) .0) in
@@ -110,12 +111,12 @@ over-data e (b ∷ x ∷ bs) rest zero = over-data e (x ∷ bs) rest zero
 over-data e (b ∷ x ∷ bs) rest (suc j) = over-data e (x ∷ bs) rest j
 
 -- from the first message's status byte behind a place on, the tags are those of whole messages
-pub record Whole (ts : List Tag) : Type 0 where
+pub record WholeMessages (ts : List Tag) : Type 0 where
   pub messages : List Message
   pub is : ts ≡ allTagged messages
   pub ok : allSendable messages ≡ true
 
-pub whole-behind : (ms : List Message) → allSendable ms ≡ true → (j : ℕ) → Whole (fromFirst (drop j (allTagged ms)))
+pub whole-behind : (ms : List Message) → allSendable ms ≡ true → (j : ℕ) → WholeMessages (fromFirst (drop j (allTagged ms)))
 whole-behind [] ok zero = record { messages = []; is = refl; ok = refl }
 whole-behind [] ok (suc j) = record { messages = []; is = refl; ok = refl }
 whole-behind (m ∷ ms) ok zero =

@@ -28,7 +28,8 @@ use Rattle.read_back.proofs.ReadBack.{realtime-reads-back}
 use Rattle.decoder.specs.State.{limit, fresh}
 use Rattle.decoder.specs.Reports.{Event, realtime}
 use Rattle.decoder.proofs.Limit.{room-for-three}
-use Rattle.damage.specs.History.{Told, heard, meaning}
+use Rattle.damage.specs.Reported.{Reported}
+use Rattle.damage.specs.History.{heard, meaning}
 use Rattle.damage.specs.Sent.{Message, Voice, Common, bytesOf, sendable, eventOf, Tag, tags, tagged, allTagged, Sent, nothing, own, bytes, intacts}
 use Rattle.damage.specs.Calls.{singly}
 use Rattle.damage.proofs.HistoryIsStep.{cleared-matches, history-is-step}
@@ -48,7 +49,7 @@ wrote bs out later count w = split (leb (length bs) (length out)) fits refused-i
     refused-instead : leb (length bs) (length out) ≡ false → take count later ≡ bs
     refused-instead e = absurd (given-not-refused count 14 _ (sym (rw e at (w .answers))))
 
--- the same bytes without real-time bytes among them
+-- messages' bytes without real-time bytes among them are sent too
 all-own : (ts : List Tag) → Sent ts ts
 all-own [] = nothing
 all-own (t ∷ ts) = own (all-own ts)
@@ -102,7 +103,7 @@ module _ (store : List ℕ) (room : limit ≤ length store) (out later : List �
   unfolding meaning
   realtime-writer-reads m w =
       ap (singly fresh store) (wrote (realtimeByte m ∷ []) out later count w)
-      ∙ history-is-step [] fresh store (realtimeByte m ∷ []) (cleared-matches fresh store room) ∙ ap (λ (x : List Told). x ∷ []) (itself m)
+      ∙ history-is-step [] fresh store (realtimeByte m ∷ []) (cleared-matches fresh store room) ∙ ap (λ (x : List Reported). x ∷ []) (itself m)
     where
       itself : (x : Realtime) → heard 0 [] (realtimeByte x) ≡ gives (realtime x) ∷ []
       itself x = realtime-heard 0 [] (realtimeByte x) (above x) ∙ rw (realtime-reads-back x)

@@ -1,24 +1,24 @@
--- One stretch of what was sent is replaced: what arrives, and what has to be reported of it.
+-- One stretch of what was sent is replaced: what arrives, and what condition 3 asks for around the break.
 use mathlib.Core.Bool.{Bool}
 use mathlib.Core.List.{List, [], _∷_, _++_}
 use Prim.Native.Nat.{ℕ, _+_}
 use lib.ListN.{take, drop}
 use Rattle.laws.specs.Choice.{pick}
-use Rattle.damage.specs.Open.{later, openAt}
-use Rattle.damage.specs.History.{Told, interrupted, meaning}
+use Rattle.damage.specs.Reported.{Reported, report18}
+use Rattle.damage.specs.Open.{pastAfter, openAt}
 use Rattle.damage.specs.Sent.{Tag, bytes, intacts}
 
--- document 01's "run" is the n sent bytes from place i on; these stand before it and behind it
-abbrev pub before : ℕ → List Tag → List Tag
-before i sent = take i sent
+-- the bytes before the run; document 01's "run" is the n sent bytes from place i on, "any stretch of what is sent, empty or all of it"
+abbrev pub beforeRun : ℕ → List Tag → List Tag
+beforeRun i sent = take i sent
 
 -- the bytes after the run
-abbrev pub behind : ℕ → ℕ → List Tag → List Tag
-behind i n sent = drop (i + n) sent
+abbrev pub afterRun : ℕ → ℕ → List Tag → List Tag
+afterRun i n sent = drop (i + n) sent
 
--- what arrives: the bytes before the run, the new bytes, then the bytes after it
+-- "What arrives is the bytes before the run, the new bytes, then the bytes after it"
 abbrev pub arrives : ℕ → ℕ → List ℕ → List Tag → List ℕ
-arrives i n new sent = bytes (before i sent) ++ (new ++ bytes (behind i n sent))
+arrives i n new sent = bytes (beforeRun i sent) ++ (new ++ bytes (afterRun i n sent))
 
 -- from the first byte of the first message whose bytes all stand here: document 01's "wholly after". A message whose first byte
 -- stands before the run or in it is none
@@ -26,30 +26,27 @@ abbrev pub fromFirst : List Tag → List Tag
 fromFirst [] = []
 fromFirst (t ∷ ts) = pick (t .first) (t ∷ ts) (fromFirst ts)
 
--- what stands ahead of it, or all where there is none
+-- what stands ahead of the first message's first byte, or all where there is no such message
 abbrev pub untilFirst : List Tag → List Tag
 untilFirst [] = []
 untilFirst (t ∷ ts) = pick (t .first) [] (t ∷ untilFirst ts)
 
--- the bytes of the break: the new ones, and those ahead of the first message wholly after the run
+-- the bytes whose reports document 01 calls "what the break causes": "all that arrives behind the bytes before the run and ahead of the
+-- first message wholly after it, or up to the end where there is none"
 abbrev pub breakBytes : ℕ → ℕ → List ℕ → List Tag → List ℕ
-breakBytes i n new sent = new ++ bytes (untilFirst (behind i n sent))
-
--- document 01's "what the break causes": the reports of these bytes, behind those before the run
-abbrev pub causes : ℕ → ℕ → List ℕ → List Tag → List (List Told)
-causes i n new sent = meaning (later [] (bytes (before i sent))) (breakBytes i n new sent)
-
--- one report 18 just ahead of the first byte's own; nothing where there is no byte
-abbrev pub led : Bool → List (List Told) → List (List Told)
-led broken [] = []
-led broken (x ∷ xs) = pick broken (interrupted ∷ x) x ∷ xs
+breakBytes i n new sent = new ++ bytes (untilFirst (afterRun i n sent))
 
 -- is a frame open where the first message wholly after the run begins?
 abbrev pub openThere : ℕ → ℕ → List ℕ → List Tag → Bool
-openThere i n new sent = openAt (later (later [] (bytes (before i sent))) (breakBytes i n new sent))
+openThere i n new sent = openAt (pastAfter (pastAfter [] (bytes (beforeRun i sent))) (breakBytes i n new sent))
 
--- condition 3's reports, byte by byte: the intact reports before the run; what the break causes; and the intact reports from the
--- first message wholly after it, led by one 18 exactly if a frame is open there
-abbrev pub expected : ℕ → ℕ → List ℕ → List Tag → List (List Told)
-expected i n new sent =
-    intacts (before i sent) ++ (causes i n new sent ++ led (openThere i n new sent) (intacts (fromFirst (behind i n sent))))
+-- "Just ahead of these last that byte itself gives one report 18 exactly when a frame is open at it"; where no message follows there is none
+abbrev pub led : Bool → List (List Reported) → List (List Reported)
+led open-there [] = []
+led open-there (x ∷ xs) = pick open-there (report18 ∷ x) x ∷ xs
+
+-- condition 3's reports of all that arrives, byte by byte: "the intact reports of every byte before the run; what the break causes; the intact
+-- reports of every byte from the first byte of the first message wholly after the run"
+abbrev pub aroundBreak : ℕ → ℕ → List ℕ → List Tag → List (List Reported) → List (List Reported)
+aroundBreak i n new sent caused =
+    intacts (beforeRun i sent) ++ (caused ++ led (openThere i n new sent) (intacts (fromFirst (afterRun i n sent))))

@@ -1,6 +1,11 @@
+pub mod Reported
 pub mod Open
-pub mod History
 pub mod Sent
 pub mod Damage
+pub mod Caller
+pub mod Condition3
+pub mod Untouched
+pub mod History
+pub mod Meaning
 pub mod Calls
-pub mod Made
+pub mod Promises

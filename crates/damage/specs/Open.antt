@@ -8,9 +8,9 @@ use Rattle.laws.specs.Choice.{pick}
 use Rattle.decoder.specs.State.{limit}
 
 -- the bytes ahead, latest first, once these have arrived too
-abbrev pub later : List ℕ → List ℕ → List ℕ
-later past [] = past
-later past (b ∷ bs) = later (b ∷ past) bs
+abbrev pub pastAfter : List ℕ → List ℕ → List ℕ
+pastAfter past [] = past
+pastAfter past (b ∷ bs) = pastAfter (b ∷ past) bs
 
 -- the last status byte 80 to F7 among the bytes ahead; 0, which is no status byte, where there is none
 abbrev pub lastStatus : List ℕ → ℕ

@@ -13,7 +13,7 @@ use Rattle.system_common.specs.Common.{commonBytes, commonInRange}
 use Rattle.real_time.specs.Realtime.{realtimeOf}
 use Rattle.decoder.specs.State.{limit}
 use Rattle.decoder.specs.Reports.{Event, channel, common, frame}
-use Rattle.damage.specs.History.{Told, heardRealtime}
+use Rattle.damage.specs.Reported.{Reported, heardRealtime}
 
 -- a channel, common or frame message; a frame is given by its bytes between F0 and F7
 pub data Message : Type 0 where
@@ -57,7 +57,7 @@ eventOf (Frame xs) = frame (bytesOf (Frame xs))
 pub record Tag : Type 0 where
   pub byte : ℕ
   pub first : Bool
-  pub intact : List Told
+  pub intact : List Reported
 
 -- "a message's last byte reports that message", every other of its bytes nothing
 abbrev pub tags : Bool → Event → List ℕ → List Tag
@@ -89,5 +89,5 @@ abbrev pub bytes : List Tag → List ℕ
 bytes ts = map (λ (t : Tag). t .byte) ts
 
 -- the intact reports alone, byte by byte
-abbrev pub intacts : List Tag → List (List Told)
+abbrev pub intacts : List Tag → List (List Reported)
 intacts ts = map (λ (t : Tag). t .intact) ts

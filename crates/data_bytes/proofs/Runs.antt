@@ -9,7 +9,7 @@ use lib.Dec.{ltb}
 use lib.ListN.{length, getD, take, drop}
 use borrow.Author.Tests.{lt-ltb, le-ltb, ltb-true, ltb-false}
 use Rattle.laws.proofs.Tests.{split}
-use Rattle.data_bytes.specs.Data.{dataRun}
+use Rattle.data_bytes.specs.quick.Data.{dataRun}
 
 pub run-none : dataRun [] ≡ 0
 unfolding dataRun

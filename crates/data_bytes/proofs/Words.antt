@@ -10,8 +10,8 @@ use lib.Dec.{ltb, leb}
 use borrow.Author.Tests.{lt-ltb, le-ltb, le-leb, lt-leb, ltb-true, ltb-false, leb-true, leb-false}
 use Rattle.laws.proofs.Tests.{split}
 use lib.ListN.{getD, length}
-use Rattle.byte_words.specs.Words.{word, wordAt}
-use Rattle.data_bytes.specs.Data.{topBits, topBitsAt, dataRun}
+use Rattle.byte_words.specs.quick.Words.{word, wordAt}
+use Rattle.data_bytes.specs.quick.Data.{topBits, topBitsAt, dataRun}
 use Rattle.data_bytes.proofs.Runs.{run-more, run-ends}
 
 top-of : (r : ℕ) → r < 256 → r / 128 % 2 * 128 ≡ r / 128 * 128

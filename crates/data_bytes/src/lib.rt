@@ -2,7 +2,7 @@
 ghost use mathlib.Core.Path.{_≡_};
 ghost use Prim.Native.Nat.{_+_, _≤_};
 ghost use lib.ListN.{length};
-ghost use Rattle.data_bytes.specs.Data.{dataRun, allData, topBits, topBitsAt};
+ghost use Rattle.data_bytes.specs.quick.Data.{dataRun, allData, topBits, topBitsAt};
 use byte_words::TOPS;
 use byte_words::WORD;
 

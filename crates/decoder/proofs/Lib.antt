@@ -5,4 +5,3 @@ pub mod Steps
 pub mod Walking
 pub mod Calling
 pub mod StepLaws
-pub mod Runs

@@ -7,7 +7,6 @@ ghost use Rattle.decoder.specs.Step.{step, stored, opened, holding, long
 ghost use Rattle.decoder.specs.Call.{walk, Walks, call, Feeds};
 
 mod byte;
-mod run;
 
 use channel_message::ChannelMessage;
 use real_time::Realtime;
@@ -148,23 +147,21 @@ impl Decoder {
     pub fn capacity(self) -> usize
         ensures { λ r. ⌜ r ≡ limit ⌝ }
     {
-        let capacity = MAX_SYSEX_LEN;
-        capacity
+        MAX_SYSEX_LEN
     }
 
     // Is a frame open?
     pub fn in_sysex(self) -> bool
         ensures { λ r. ⌜ r ≡ self .in_sysex ⌝ }
     {
-        let open = self.in_sysex;
-        open
+        self.in_sysex
     }
 
     // Forgets the open frame, the status and pending data. Takes any state.
     pub fn reset(self) -> Decoder
         ensures { λ r. ⌜ r ≡ reset self ⌝ }
     {
-        Decoder::cleared(self)
+        self.cleared()
     }
 
     // Takes bytes until the first that reports. The store is lent at every call, as the last one left it. Refuses 20.
@@ -340,11 +337,10 @@ impl Decoder {
                 byte::status_byte(self, self.opened(), MaybeReport::None)
             }
             Class::Undefined => byte::status_byte(self, self.cleared(), MaybeReport::None),
-            Class::Tune => byte::status_byte(
-                self,
-                self.cleared(),
-                MaybeReport::Some(Report::Common(SystemCommon::TuneRequest)),
-            ),
+            Class::Tune => {
+                let report = MaybeReport::Some(Report::Common(SystemCommon::TuneRequest));
+                byte::status_byte(self, self.cleared(), report)
+            }
             Class::End => {
                 let next = self.cleared();
                 if !self.in_sysex {
@@ -364,35 +360,28 @@ impl Decoder {
         }
     }
 
-    // Takes bytes until the first that reports: a run of data bytes at once where that is the same, else one byte.
-    pub fn walk(self, store: &mut [u8], bytes: &[u8]) -> Fed
+    // Takes bytes until the first that reports, one by one.
+    fn walk(self, store: &mut [u8], bytes: &[u8]) -> Fed
         requires { ⌜ limit ≤ length (now store) ⌝ }
         ensures { λ r. ⌜ Walks (walk self (now (store .entry)) (now (bytes .entry))) r (now (store .exit)) ⌝ }
     {
         let mut state = self;
         let mut used: usize = 0;
         while used < bytes.len() {
-            let run = run::quiet_run(state, &bytes[used..]);
-            if 0 < run {
-                let end = used + run;
-                state = run::after_run(state, store, &bytes[used..end]);
-                used = end;
-            } else {
-                let byte = bytes[used];
-                let done = state.step(store, byte);
-                used += 1;
-                let next = done.state;
-                if byte::reports(done) {
-                    let report = done.report;
-                    return Fed {
-                        used,
-                        state: next,
-                        interrupted: done.interrupted,
-                        report,
-                    };
-                }
-                state = next;
+            let byte = bytes[used];
+            let done = state.step(store, byte);
+            used += 1;
+            let next = done.state;
+            if byte::reports(done) {
+                let report = done.report;
+                return Fed {
+                    used,
+                    state: next,
+                    interrupted: done.interrupted,
+                    report,
+                };
             }
+            state = next;
         }
         Fed {
             used,

@@ -10,17 +10,22 @@ use lib.ListN.{length, take, drop, length-take, length-drop}
 use lib.Seq.{drop-drop, take-nil}
 use borrow.Author.Tests.{ltb-true, ltb-false}
 use Rattle.laws.specs.Choice.{pick}
+use Rattle.refusal.proofs.Given.{given-not-refused}
 use Rattle.laws.proofs.Tests.{both, split}
 use Rattle.command.specs.declared.Command.{Command}
 use Rattle.command.specs.Payload as y
 use Rattle.command.specs.Payload.{payloadOf}
 use Rattle.fields.specs.declared.Fields.{Fields}
-use Rattle.payload.specs.Wire.{optional, fieldList}
+use Rattle.refusal.specs.declared.Refusal.{Refusal}
+use Rattle.refusal.specs.Outcome.{Outcome, gives, refused, refusal, andThen}
+use Rattle.payload.specs.Wire.{optional, fieldList, carriesRun}
 use Rattle.frame_reader.specs.declared.Record.{Record}
 use Rattle.payload_reader.specs.Payload.{numberedBy, prefixLength}
-use Rattle.frame_reader.specs.Reader.{payload}
+use Rattle.frame_reader.specs.declared.Place.{Place}
+use Rattle.frame_reader.specs.declared.Located.{Located}
+use Rattle.frame_reader.specs.Reader.{payload, readRecord, runIn, runOf, placeIn, runPlace, withPlace, readLocated}
 use Rattle.payload_reader.proofs.Tests.{numbered-short, optional-is}
-use Rattle.frame_reader.proofs.Accepted.{Described}
+use Rattle.frame_reader.proofs.Accepted.{Described, described}
 
 -- dropping from a part of a list
 pub drop-take : {A : Type 0} (n m : ℕ) (l : List A) → drop n (take m l) ≡ take (m - n) (drop n l)
@@ -80,3 +85,74 @@ pub run-part : (bytes : List ℕ) (n : ℕ) → take (length bytes - 1 - (7 + n)
 run-part bytes n =
     let e : length bytes - 1 - (7 + n) ≡ length bytes - 8 - n = omega arith in
     rw (drop-take n (length bytes - 8) (drop 7 bytes), drop-drop n 7 bytes, e)
+
+module _ (bytes : List ℕ) (r : Record) (h : gives r ≡ readRecord bytes) where
+  -- the prefix is there in every accepted frame
+  pub prefix-fits : 8 + length (fieldList (r .command) (r .fields .«has_pattern»)) ≤ length bytes
+  prefix-fits =
+      let d = described bytes r (sym h) in
+      omega (arith, d .long, prefix-there bytes r d)
+
+  -- the run ends ahead of the closing F7
+  pub run-length : pick (carriesRun (r .command)) (length bytes - 1 - placeIn r) 0 ≡ length (runIn r bytes)
+  run-length = go (carriesRun (r .command)) refl
+    where
+      go : (t : Bool) → carriesRun (r .command) ≡ t → pick (carriesRun (r .command)) (length bytes - 1 - placeIn r) 0 ≡ length (runIn r bytes)
+      go true c =
+          let n = length (fieldList (r .command) (r .fields .«has_pattern»)) in
+          let p : length (drop n (payload bytes)) ≡ length (payload bytes) - n = length-drop n (payload bytes) in
+          rw (c, p, length-payload bytes r (described bytes r (sym h))) (omega (arith, prefix-fits))
+      go false c = rw c
+
+  pub run-within : placeIn r + length (runIn r bytes) ≤ length bytes
+  run-within = go (carriesRun (r .command)) refl
+    where
+      go : (t : Bool) → carriesRun (r .command) ≡ t → placeIn r + length (runIn r bytes) ≤ length bytes
+      go true c = rw (← run-length, c) (omega (arith, prefix-fits))
+      go false c = rw c (omega arith)
+
+  -- the run's place is right: the bytes there are the run
+  pub run-lies-there : take (length (runIn r bytes)) (drop (placeIn r) bytes) ≡ runIn r bytes
+  run-lies-there = go (carriesRun (r .command)) refl
+    where
+      go : (t : Bool) → carriesRun (r .command) ≡ t → take (length (runIn r bytes)) (drop (placeIn r) bytes) ≡ runIn r bytes
+      go true c = rw (← run-length, c, run-part bytes (length (fieldList (r .command) (r .fields .«has_pattern»))))
+      go false c = rw c
+
+-- a place is known by its two numbers
+pub place-is : (x : Place) {start len : ℕ} → x .start ≡ start → x .len ≡ len → x ≡ record { start = start; len = len }
+place-is x p q = ap (λ (n : ℕ). record { start = n; len = x .len }) p ∙ rw q
+
+-- what was read with its run's place: the reader's record, and where its run lies
+pub record WithPlace (bytes : List ℕ) (x : Located) : Type 0 where
+  pub found : gives (x .frame) ≡ readRecord bytes
+  pub starts : x .run .start ≡ placeIn (x .frame)
+  pub long : x .run .len ≡ length (runIn (x .frame) bytes)
+
+pub with-place : (bytes : List ℕ) (x : Located) → gives x ≡ readLocated bytes → WithPlace bytes x
+with-place bytes x h = go (readRecord bytes) refl h
+  where
+    go : (o : Outcome Record) → readRecord bytes ≡ o → gives x ≡ andThen o (λ r. gives (withPlace bytes r)) → WithPlace bytes x
+    go (gives r) e g =
+        let same : x ≡ withPlace bytes r = cc in
+        rw same (record { found = sym e; starts = refl; long = refl })
+    go (refused n vs) e g = absurd (given-not-refused x n vs (sym g))
+
+-- its run is the part at that place
+pub read-starts : (bytes : List ℕ) (x : Located) → gives x ≡ readLocated bytes → x .run .start ≡ runPlace bytes
+read-starts bytes x h = let p = with-place bytes x h in p .starts ∙ rw (← p .found)
+
+pub read-run : (bytes : List ℕ) (x : Located) → gives x ≡ readLocated bytes → take (x .run .start + x .run .len - x .run .start) (drop (x .run .start) bytes) ≡ runOf bytes
+read-run bytes x h =
+    let p = with-place bytes x h in
+    let n : x .run .start + x .run .len - x .run .start ≡ length (runIn (x .frame) bytes) = omega (arith, p .long) in
+    ap (λ (k : ℕ). take k (drop (x .run .start) bytes)) n ∙ ap (λ (k : ℕ). take (length (runIn (x .frame) bytes)) (drop k bytes)) (p .starts)
+    ∙ run-lies-there bytes (x .frame) (p .found) ∙ rw (← p .found)
+
+-- a frame that is refused has none
+pub no-run : (bytes : List ℕ) (e : Refusal) → refusal e ≡ readLocated bytes → (runPlace bytes ≡ 0) × (runOf bytes ≡ [])
+no-run bytes e h = go (readRecord bytes) refl h
+  where
+    go : (o : Outcome Record) → readRecord bytes ≡ o → refusal e ≡ andThen o (λ r. gives (withPlace bytes r)) → (runPlace bytes ≡ 0) × (runOf bytes ≡ [])
+    go (gives r) i g = absurd (given-not-refused (withPlace bytes r) _ _ g)
+    go (refused n vs) i g = (rw i, rw i)

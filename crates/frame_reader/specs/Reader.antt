@@ -18,6 +18,9 @@ use Rattle.payload_reader.specs.Payload.{readPayload}
 use Rattle.frame_reader.specs.declared.Record.{Record}
 use Rattle.frame_reader.specs.declared.RecordAnswer.{RecordAnswer}
 use Rattle.frame_reader.specs.declared.RecordAnswer.the-variants as ra
+use Rattle.frame_reader.specs.declared.Located.{Located}
+use Rattle.frame_reader.specs.declared.LocatedAnswer.{LocatedAnswer}
+use Rattle.frame_reader.specs.declared.LocatedAnswer.the-variants as fa
 
 -- "Row: F0 00 20 32 20, device, command, payload, F7"
 abbrev pub payload : List ℕ → List ℕ
@@ -83,6 +86,19 @@ placeIf (refused n vs) = 0
 -- where the run of a frame begins, 0 for a frame that is refused
 abbrev pub runPlace : List ℕ → ℕ
 runPlace bytes = placeIf (readRecord bytes)
+
+-- "a record of plain fields beside the caller's packed run": the record, and where the run lies in the caller's bytes
+abbrev pub withPlace : List ℕ → Record → Located
+withPlace bytes r = record { frame = r; run = record { start = placeIn r; len = length (runIn r bytes) } }
+
+-- the reader's answer with the run's place
+abbrev pub readLocated : List ℕ → Outcome Located
+readLocated bytes = andThen (readRecord bytes) (λ r. gives (withPlace bytes r))
+
+-- the code's answer with the run's place, in document 01's terms
+abbrev pub locatedTold : LocatedAnswer → Outcome Located
+locatedTold (fa.Ok r) = gives r
+locatedTold (fa.Err e) = refusal e
 
 -- the run is no copy: it is these bytes, so many places behind the first of the caller's
 pub record RunLent (bytes run : RefT (List ℕ)) : Type 0 where

@@ -1,7 +1,11 @@
 // Reads a frame, F0 to F7: whom it is for, what it says, and where its packed run lies.
 ghost use mathlib.Core.Path.{_≡_};
+ghost use Prim.Native.Nat.{_+_, _-_, _≤_};
+ghost use lib.ListN.{length};
+ghost use Rattle.laws.specs.Choice.{pick};
+ghost use Rattle.payload.specs.Wire.{carriesRun, fieldList};
 ghost use Rattle.message.specs.Head.{frameTold};
-ghost use Rattle.frame_reader.specs.Reader.{readHeader, readRecord, recordTold, parsed, RunLent};
+ghost use Rattle.frame_reader.specs.Reader.{readHeader, readRecord, recordTold, readLocated, locatedTold, placeIn, parsed, RunLent};
 use command::Command;
 use command::CommandAnswer;
 use device::DeviceAnswer;
@@ -22,6 +26,23 @@ pub struct Record {
 
 pub enum RecordAnswer {
     Ok(Record),
+    Err(Refusal),
+}
+
+// Where a packed run lies in the caller's bytes; both 0 where there is none.
+pub struct Place {
+    pub start: usize,
+    pub len: usize,
+}
+
+// A frame that was read, and where its run lies.
+pub struct Located {
+    pub frame: Record,
+    pub run: Place,
+}
+
+pub enum LocatedAnswer {
+    Ok(Located),
     Err(Refusal),
 }
 
@@ -93,20 +114,46 @@ pub fn parse(bytes: &[u8]) -> FrameAnswer
     }
 }
 
+// Where the run of an accepted frame of so many bytes lies: behind the header's seven bytes and the prefix, up to the closing F7.
+fn place_of(frame: Record, len: usize) -> Place
+    requires { ⌜ 8 + length (fieldList (frame .command) (frame .fields .«has_pattern»)) ≤ len ⌝ }
+    ensures { λ r. ⌜ (r .start ≡ placeIn frame) × (r .len ≡ pick (carriesRun (frame .command)) (len - 1 - placeIn frame) 0) ⌝ }
+{
+    let command = frame.command;
+    let fields = frame.fields;
+    if !payload::carries_run(command) {
+        return Place { start: 0, len: 0 };
+    }
+    let start = 7 + payload::prefix_of(command, fields).len;
+    Place {
+        start,
+        len: len - 1 - start,
+    }
+}
+
+// The frame as plain fields, and where its run lies. Refuses as read_record.
+pub fn read_located(bytes: &[u8]) -> LocatedAnswer
+    ensures { λ r. ⌜ locatedTold r ≡ readLocated (now (bytes .entry)) ⌝ }
+{
+    match read_record(bytes) {
+        RecordAnswer::Err(e) => LocatedAnswer::Err(e),
+        RecordAnswer::Ok(record) => {
+            let run = place_of(record, bytes.len());
+            LocatedAnswer::Ok(Located { frame: record, run })
+        }
+    }
+}
+
 // The frame's packed run, where it lies; empty for a frame that is refused or has none.
 pub fn run_of(bytes: &[u8]) -> &[u8]
     ensures { λ r. ⌜ RunLent (bytes .entry) r ⌝ }
 {
-    match read_record(bytes) {
-        RecordAnswer::Err(_) => &bytes[0..0],
-        RecordAnswer::Ok(record) => {
-            let command = record.command;
-            let fields = record.fields;
-            if !payload::carries_run(command) {
-                return &bytes[0..0];
-            }
-            let start = 7 + payload::prefix_of(command, fields).len;
-            let end = bytes.len() - 1;
+    match read_located(bytes) {
+        LocatedAnswer::Err(_) => &bytes[0..0],
+        LocatedAnswer::Ok(read) => {
+            let run = read.run;
+            let start = run.start;
+            let end = start + run.len;
             &bytes[start..end]
         }
     }

@@ -1,9 +1,8 @@
 // Writes a frame, F0 to F7, from a message or from plain fields, beside the caller's packed run.
 ghost use mathlib.Core.Path.{_≡_};
-ghost use mathlib.Core.Bool.{true};
 ghost use mathlib.Core.List.{_++_};
 ghost use Prim.Native.Nat.{_+_, _≤_};
-ghost use lib.ListN.{length, take, drop};
+ghost use lib.ListN.{length, drop};
 ghost use Rattle.laws.specs.Choice.{pick};
 ghost use Rattle.payload.specs.Wire.{carriesRun};
 ghost use Rattle.refusal.specs.Outcome.{Writes, counted};

@@ -1,36 +1,32 @@
--- Condition 3 for lists of `dm_feed` calls. The state's bytes say the state, and the answer's numbers say the reports, so a list of such
--- calls comes to what the same list of decoder calls comes to; and of that condition 3 is proved.
-use mathlib.Core.Path.{_≡_, refl, sym, _∙_, ap, ap₂, subst}
+-- The call of `dm_feed` on a sound state's bytes is the decoder's call: the bytes say the state, and the numbers of the answer say its count and
+-- its reports.
+use mathlib.Core.Path.{_≡_, refl, _∙_, ap, ap₂, subst}
 use mathlib.Core.Bool.{Bool, true, false}
-use mathlib.Core.List.{List, [], _∷_, _++_}
+use mathlib.Core.List.{List, []}
 use Prim.Native.Nat.{ℕ, _≤_, _<_, _^_}
 use native.Mathlib.Omega.{arith}
-use lib.ListN.{length, take, drop}
+use lib.ListN.{length, replicate}
 use Rattle.laws.proofs.Tests.{split}
 use Rattle.refusal.specs.Outcome.{Outcome, gives, refused, unless}
 use Rattle.decoder.specs.declared.Decoder.{Decoder}
-use Rattle.decoder.specs.declared.MaybeReport.{MaybeReport}
-use Rattle.decoder.specs.declared.MaybeReport.the-variants as m
-use Rattle.decoder.specs.State.{limit, sound, fresh}
-use Rattle.decoder.specs.Call.{Walked, walk, call, answerOf, storeOf}
+use Rattle.decoder.specs.State.{limit, sound, fresh, reset}
+use Rattle.decoder.specs.Call.{Walked, walk, ready, call, storeOf}
 use Rattle.decoder.proofs.Limit.{limit-is}
 use Rattle.decoder.proofs.SoundKept.{closed-part, open-part}
-use Rattle.decoder.proofs.Calling.{short-refused, ready-walks}
-use Rattle.damage.specs.History.{Told}
-use Rattle.damage.specs.Sent.{Message, allSendable, Tag, allTagged, Sent}
-use Rattle.damage.specs.Damage.{arrives, expected}
-use Rattle.damage.specs.Calls.{Call, Heard, usedBy, countOf, stateBy, withAnswer, calls, total, paced, belonging}
-use Rattle.damage.proofs.Chunking.{walks}
-use Rattle.damage.proofs.Condition3.{condition-3}
-use Rattle.report_numbers.specs.declared.FedAnswer.{FedAnswer}
-use Rattle.decoder_bytes.specs.State.{encoded, stateOf}
-use Rattle.report_numbers.specs.Reports.{numbersOf}
-use Rattle.host_stream.specs.Stream.{feedCall, fedAnswer, stateAfter}
-use Rattle.decoder_bytes.proofs.StateBytes.{encoded-is-state, state-read-back}
-use Rattle.host_damage.specs.Numbers.{toldBy, usedOf}
-use Rattle.host_damage.specs.HostCalls.{reportsOf, withFed, MadeByHost, none, given, lent}
+use Rattle.damage.specs.Caller.{Call, CallLog, Made, Exactly}
+use Rattle.damage.specs.Condition3.{Condition3}
+use Rattle.damage.specs.Promises.{Promises}
+use Rattle.damage.specs.Calls.{singly}
+use Rattle.damage.proofs.Hearing.{Answers, made-exists}
+use Rattle.damage.proofs.Thin.{IsCall, Thin, thin-singly, thin-promises}
+use Rattle.stream.specs.declared.FedAnswer.{FedAnswer}
+use Rattle.stream.specs.State.{encoded, stateOf}
+use Rattle.stream.specs.Feed.{feedCall, fedAnswer, stateAfter, StreamFed}
+use Rattle.stream.proofs.StateBytes.{encoded-is-state, state-read-back}
+use Rattle.host_damage.specs.Numbers.{numbersTell, numbersCount}
+use Rattle.host_damage.specs.HostCalls.{byHost}
 use Rattle.host_damage.proofs.Named.{walk-named}
-use Rattle.host_damage.proofs.NumbersTold.{numbers-told}
+use Rattle.host_damage.proofs.NumbersTold.{numbers-told, numbers-counted}
 
 -- a sound state's length fits its eight bytes
 fits : (d : Decoder) → sound d ≡ true → d .len < 2 ^ 64
@@ -39,73 +35,63 @@ fits d h =
     (λ (e : d .in_sysex ≡ true). let o = open-part d h e in omega (arith, o .fits, limit-is))
     (λ (e : d .in_sysex ≡ false). omega (arith, closed-part d h e .0))
 
--- so a call on its bytes is a call on it
+-- a call on a sound state's bytes is a call on the state
 same-call : (d : Decoder) (store bytes : List ℕ) → sound d ≡ true → feedCall (encoded d) store bytes ≡ call d store bytes
 same-call d store bytes h =
     ap (λ (t : Bool). unless t 20 [] (call (stateOf (encoded d)) store bytes)) (encoded-is-state d)
     ∙ ap (λ (e : Decoder). call e store bytes) (state-read-back d (fits d h))
 
--- what the numbers of an answer say: the count and the reports
-count-said : (used : ℕ) (i : Bool) (z : MaybeReport) → usedOf (numbersOf used i z) ≡ gives used
-count-said used i m.None = refl
-count-said used i (m.Some z) = refl
+module _ (d : Decoder) (store bytes : List ℕ) (answer : FedAnswer) (next left : List ℕ) where
+  abbrev Is : Outcome Walked → Type 0
+  Is o = StreamFed o answer (encoded d) next store left → IsCall numbersCount numbersTell encoded o d store answer next left
 
-reports-said : (used : ℕ) (i : Bool) (z : MaybeReport) (store : List ℕ)
-    → reportsOf (numbersOf used i z) store ≡ belonging used (toldBy (numbersOf used i z) store)
-reports-said used i m.None store = refl
-reports-said used i (m.Some z) store = refl
+  fed-is : Is (gives (walk d store bytes))
+  fed-is met =
+      let w = walk d store bytes in
+      let f = w .fed in
+      record {
+        count = ap numbersCount (met .answers) ∙ numbers-counted (f .used) (f .interrupted) (f .report);
+        told = ap₂ numbersTell (met .answers) (met .leaves) ∙ numbers-told (w .store) (f .used) (f .interrupted) (f .report) (walk-named bytes d store);
+        state = met .keeps;
+        store-is = met .leaves;
+      }
 
--- a call that fed, in front of others
-fed-first : (d : Decoder) (store bytes : List ℕ) (rest later : Heard) → rest ≡ later
-    → withFed (fedAnswer (gives (walk d store bytes))) (walk d store bytes .store) rest
-    ≡ withAnswer (answerOf (gives (walk d store bytes))) (walk d store bytes .store) later
-fed-first d store bytes rest later e =
-    let w = walk d store bytes in
-    let f = w .fed in
-    ap₂ (λ (u : Outcome ℕ) (k : Heard). record { answers = u ∷ k .answers; reports = reportsOf (fedAnswer (gives w)) (w .store) ++ k .reports })
-    (count-said (f .used) (f .interrupted) (f .report)) e
-    ∙ ap (λ (ts : List (List Told)). record { answers = gives (f .used) ∷ later .answers; reports = ts ++ later .reports })
-    (reports-said (f .used) (f .interrupted) (f .report) (w .store)
-    ∙ ap (belonging (f .used)) (numbers-told (w .store) (f .used) (f .interrupted) (f .report) (walk-named bytes d store)))
+  refused-is : Is (refused 20 [])
+  refused-is met =
+      record {
+        count = ap numbersCount (met .answers);
+        told = ap (λ (a : FedAnswer). numbersTell a left) (met .answers);
+        state = met .keeps;
+        store-is = met .leaves;
+      }
 
--- a list of calls from a sound state's bytes comes to what the decoder's calls come to
-pub made-is-calls : {cs : List Call} {state store bytes : List ℕ} {h : Heard} → MadeByHost cs state store bytes h → (d : Decoder) → state ≡ encoded d
-    → sound d ≡ true → limit ≤ length store → h ≡ calls cs d store bytes
-unfolding calls
-made-is-calls none d s ok room = refl
-made-is-calls (given {n} {cs} {state} {store} {bytes} {h} a stateLater storeLater k rest) d s ok room =
-    let w = walk d store (take n bytes) in
-    let b = walks n d store bytes ok in
-    let o : feedCall state store (take n bytes) ≡ gives w =
-    ap (λ (t : List ℕ). feedCall t store (take n bytes)) s ∙ same-call d store (take n bytes) ok ∙ ready-walks d store (take n bytes) room ok in
-    let answer : a ≡ fedAnswer (gives w) = k .answers ∙ ap fedAnswer o in
-    let next : stateLater ≡ encoded (w .fed .state) = k .keeps ∙ ap (λ (p : Outcome Walked). stateAfter p state) o in
-    let left : storeLater ≡ w .store = k .leaves ∙ ap (λ (p : Outcome Walked). storeOf p store) o in
-    let longer : limit ≤ length storeLater = subst (λ (l : List ℕ). limit ≤ length l) (sym left) (subst (λ (l : ℕ). limit ≤ l) (sym (b .length-after)) room) in
-    let later = made-is-calls rest (w .fed .state) next (b .sound-after) longer in
-    let used : countOf (usedOf a) ≡ w .fed .used =
-    ap (λ (f : FedAnswer). countOf (usedOf f)) answer ∙ ap countOf (count-said (w .fed .used) (w .fed .interrupted) (w .fed .report)) in
-    ap₂ (λ (x : FedAnswer) (y : List ℕ). withFed x y h) answer left
-    ∙ fed-first d store (take n bytes) h (calls cs (w .fed .state) (w .store) (drop (w .fed .used) bytes))
-    (later ∙ ap₂ (λ (l : List ℕ) (u : ℕ). calls cs (w .fed .state) l (drop u bytes)) left used)
-    ∙ sym
-    (ap (λ (p : Outcome Walked). withAnswer (answerOf p) (storeOf p store) (calls cs (stateBy (answerOf p) d) (storeOf p store) (drop (countOf (usedBy (answerOf p))) bytes)))
-    (ready-walks d store (take n bytes) room ok))
-made-is-calls (lent {other} {others} {short} {cs} {state} {store} {bytes} {h} a stateLater otherLater k rest) d s ok room =
-    let o : feedCall state other others ≡ refused 20 [] =
-    ap (λ (t : List ℕ). feedCall t other others) s ∙ same-call d other others ok ∙ short-refused d other others short in
-    let answer : a ≡ fedAnswer (refused 20 []) = k .answers ∙ ap fedAnswer o in
-    let next : stateLater ≡ encoded d = k .keeps ∙ ap (λ (p : Outcome Walked). stateAfter p state) o ∙ s in
-    let later = made-is-calls rest d next ok room in
-    ap₂ (λ (x : FedAnswer) (y : Heard). withFed x otherLater y) answer later
-    ∙ sym
-    (ap (λ (p : Outcome Walked). withAnswer (answerOf p) (storeOf p other) (calls cs (stateBy (answerOf p) d) store bytes))
-    (short-refused d other others short))
+  is-call : sound d ≡ true → StreamFed (feedCall (encoded d) store bytes) answer (encoded d) next store left
+      → IsCall numbersCount numbersTell encoded (call d store bytes) d store answer next left
+  is-call ok met =
+      split {P = Is (call d store bytes)} (ready d store) (λ t. rw t fed-is) (λ t. rw t refused-is)
+      (subst (λ (o : Outcome Walked). StreamFed o answer (encoded d) next store left) (same-call d store bytes ok) met)
 
--- every list of `dm_feed` calls from fourteen bytes 00, the fresh state's
-pub condition-3-of-host : (ms : List Message) → allSendable ms ≡ true → (sent : List Tag) → Sent (allTagged ms) sent → (i n : ℕ) (new store : List ℕ)
-    → limit ≤ length store → (cs : List Call) (h : Heard) → MadeByHost cs (encoded fresh) store (arrives i n new sent) h
-    → (h .reports ≡ take (total (h .answers)) (expected i n new sent)) × (h .answers ≡ paced cs (expected i n new sent))
-condition-3-of-host ms ok sent w i n new store room cs h made =
-    let P : Heard → Type 0 = λ (x : Heard). (x .reports ≡ take (total (x .answers)) (expected i n new sent)) × (x .answers ≡ paced cs (expected i n new sent)) in
-    subst P (sym (made-is-calls made fresh refl refl room)) (condition-3 ms ok sent w i n new store room cs)
+abbrev thin : Thin (byHost .Contract) (byHost .used) (byHost .tells)
+thin = record { kept = encoded; is-call = is-call }
+
+-- from every sound state's bytes, in whatever pieces, what single bytes report
+pub by-host-singly : (d : Decoder) (store bytes : List ℕ) → sound d ≡ true → limit ≤ length store → (cs : List (Call byHost)) (log : CallLog)
+    → Made byHost cs (encoded d) store bytes log → Exactly cs (singly d store bytes) log
+by-host-singly = thin-singly (byHost .Contract) (byHost .used) (byHost .tells) thin
+
+-- from the bytes of every state that a reset leaves
+pub by-host : (d : Decoder) → Promises byHost (encoded (reset d))
+by-host = thin-promises (byHost .Contract) (byHost .used) (byHost .tells) thin
+
+-- CONDITION 3 for lists of `dm_feed` calls, from fourteen bytes 00
+pub condition-3-of-host : Condition3 byHost (replicate 14 0)
+condition-3-of-host = by-host fresh .condition-3
+
+-- the contract has an answer to every call, also on bytes that are no state's, and so the calls can be made
+answers : Answers byHost
+answers state store bytes =
+    let o = feedCall state store bytes in
+    (fedAnswer o, stateAfter o state, storeOf o store, record { answers = refl; keeps = refl; leaves = refl })
+
+pub by-host-exists : (cs : List (Call byHost)) (state store bytes : List ℕ) → (log : CallLog) × Made byHost cs state store bytes log
+by-host-exists = made-exists byHost answers

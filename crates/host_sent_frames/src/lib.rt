@@ -1,21 +1,16 @@
 // The C entry points that write frames.
 ghost use mathlib.Core.Path.{_≡_};
 ghost use mathlib.Core.Bool.{_&&_};
-ghost use mathlib.Core.List.{[]};
-ghost use Prim.Native.Nat.{_≤_};
 ghost use lib.Dec.{leb};
 ghost use lib.ListN.{length};
 ghost use Rattle.laws.specs.Choice.{pick};
-ghost use Rattle.refusal.specs.Outcome.{gives};
-ghost use Rattle.boundary.specs.Answer.{answerOf, noRecord, Sends, SendsIf};
+ghost use Rattle.boundary.specs.Answer.{answerOf, noRecord, SendsIf};
 ghost use Rattle.boundary.specs.Device.{deviceFrom};
-ghost use Rattle.frame_writer.specs.Writer.{row, recordWrite};
+ghost use Rattle.frame_writer.specs.Writer.{recordWrite};
 ghost use Rattle.host_sent_frames.specs.Sent.{fieldsFrom, lengthAsked};
-ghost use Rattle.host_sent_frames.specs.Bare.{bareSent};
 use boundary::Answer;
 use command::Command;
 use command::CommandAnswer;
-use device::DeviceId;
 use fields::Fields;
 use message::Head;
 
@@ -48,35 +43,6 @@ pub extern "C" fn dm_frame_len(command: u8, has_pattern: u8, run_len: usize) -> 
     }
 }
 
-// Can a frame without payload be written at once: its device and its command are there, and so is the room?
-fn is_bare_sent(device: DeviceId, code: u8, room: usize) -> bool
-    ensures { λ r. ⌜ r ≡ bareSent device code room ⌝ }
-{
-    if !framing::device_in_range(device) {
-        return false;
-    }
-    if !bare::is_bare(code) {
-        return false;
-    }
-    8 <= room
-}
-
-// Puts the eight bytes of a frame without payload to the front of a buffer that has the room.
-fn put_bare(device: u8, code: u8, out: &mut [u8]) -> Answer
-    requires { ⌜ 8 ≤ length (now out) ⌝ }
-    ensures { λ r. ⌜ Sends (gives (row device code [] [])) r (now (out .entry)) (now (out .exit)) ⌝ }
-{
-    out[0] = framing::SYSEX_START;
-    out[1] = 0x00;
-    out[2] = 0x20;
-    out[3] = 0x32;
-    out[4] = 0x20;
-    out[5] = device;
-    out[6] = code;
-    out[7] = framing::SYSEX_END;
-    boundary::done(8)
-}
-
 // Writes a frame. NO_RECORD for everyone or has_pattern above 1; then refuses 5, 6, the fields that the command has in wire order (8, 12, 9, 10, 11),
 // 22, 14, 2. It looks at no run length.
 #[no_mangle]
@@ -106,9 +72,6 @@ pub extern "C" fn dm_frame_write(
         return boundary::no_record();
     }
     let device = boundary::device_of(everyone, unit);
-    if is_bare_sent(device, command, out.len()) {
-        return put_bare(device.to_byte(), command, out);
-    }
     let fields = Fields {
         free,
         version,

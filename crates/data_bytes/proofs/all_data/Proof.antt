@@ -1,6 +1,6 @@
 -- `all_data` meets its contract: what was joined so far has no top bit where the run goes as far.
 use Rattle.data_bytes.proofs.Words.{seen-more}
-use Rattle.data_bytes.specs.Data.{dataRun}
+use Rattle.data_bytes.specs.quick.Data.{dataRun}
 use native.Mathlib.Omega.{arith}
 use borrow.Author.Tests.{le-leb}
 use lib.Dec.{ltb, leb}

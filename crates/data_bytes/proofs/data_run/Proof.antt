@@ -1,6 +1,6 @@
 -- `data_run` meets its contract: byte by byte behind the words, until the run ends.
 use Rattle.data_bytes.proofs.Runs.{run-within, run-more, run-ends}
-use Rattle.data_bytes.specs.Data.{dataRun}
+use Rattle.data_bytes.specs.quick.Data.{dataRun}
 use native.Mathlib.Omega.{arith}
 use lib.ListN.{length}
 use Prim.Native.Nat.{_≤_, _-_}

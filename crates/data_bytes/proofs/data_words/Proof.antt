@@ -1,6 +1,6 @@
 -- `data_words` meets its contract: what was seen by whole words belongs to the run.
 use Rattle.data_bytes.proofs.Words.{word-more}
-use Rattle.data_bytes.specs.Data.{dataRun}
+use Rattle.data_bytes.specs.quick.Data.{dataRun}
 use native.Mathlib.Omega.{arith}
 use lib.ListN.{length}
 use Prim.Native.Nat.{_≤_, _-_, _%_}

@@ -1,40 +1,44 @@
--- `dm_frame_read` meets its contract: a frame without payload is told at once, and any other as the reader reads it.
-use Rattle.host_frames.proofs.Bare.{bare-told}
-use mathlib.Core.Path.{sym, _∙_}
+-- `dm_frame_read` meets its contract: it tells what the reader below it read, and where the run lies.
+use Rattle.host_frames.proofs.Told.{read-refused, read-told}
+use Rattle.frame_reader.specs.Reader.{locatedTold}
+use mathlib.Core.Path.{ap, sym, _∙_}
 use borrow.Author.Needs.{needs}
 use Rattle.host_frames.proofs.dm_frame_read.Statement.{statement}
 use Rattle.host_frames.proofs.dm_frame_read.Tie as tie
 
-is-bare-frame-requires : tie.Need-is-bare-frame-requires
-is-bare-frame-requires c κs = search needs
+read-located-requires : tie.Need-read-located-requires
+read-located-requires c κs = search needs
 
-shared-slice-read-bare-numbers : tie.Need-shared-slice-read-bare-numbers
-shared-slice-read-bare-numbers c = search needs
+enum-known-e : tie.Need-enum-known-e
+enum-known-e c = search needs
 
-shared-slice-read-bare-numbers-2 : tie.Need-shared-slice-read-bare-numbers-2
-shared-slice-read-bare-numbers-2 c = search needs
+not-read-requires : tie.Need-not-read-requires
+not-read-requires c κs = search needs
 
-bare-numbers-requires : tie.Need-bare-numbers-requires
-bare-numbers-requires c κs = search needs
+enum-known-read : tie.Need-enum-known-read
+enum-known-read c = search needs
+
+numbers-requires : tie.Need-numbers-requires
+numbers-requires c κs = search needs
 
 returns : tie.Need-returns
-returns c = let w = c .before .before .before .before in
-    c .bare-numbers .ensures ∙ bare-told (w .before .before .before .args .bytes .now) (sym (w .is-bare-frame .ensures) ∙ c .before .before .before .if2 .taken)
-
-read-any-requires : tie.Need-read-any-requires
-read-any-requires c κs = search needs
+returns c = let e = c .before .before .e .given in
+    read-refused (c .before .before .before .before .before .before .args .bytes .now) (e .0 .0) (c .not-read .result)
+    (ap locatedTold (sym (e .1)) ∙ c .before .before .before .before .read-located .ensures) (c .not-read .ensures)
 
 returns-2 : tie.Need-returns-2
-returns-2 c = search needs
+returns-2 c = let x = c .before .before .read .given in
+    read-told (c .before .before .before .before .before .before .args .bytes .now) (x .0 .0) (c .numbers .result)
+    (ap locatedTold (sym (x .1)) ∙ c .before .before .before .before .read-located .ensures) (c .numbers .ensures)
 
 pub dm-frame-read-spec : {M : Type 1} → statement M
 dm-frame-read-spec =
     tie.close
     (tie.spec
-    is-bare-frame-requires
-    shared-slice-read-bare-numbers
-    shared-slice-read-bare-numbers-2
-    bare-numbers-requires
+    read-located-requires
+    enum-known-e
+    not-read-requires
+    enum-known-read
+    numbers-requires
     returns
-    read-any-requires
     returns-2)

@@ -4,9 +4,6 @@ use mathlib.Core.Path.{ap}
 use borrow.Author.Needs.{needs}
 use Rattle.host_frames.proofs.not_read.Statement.{statement}
 use Rattle.host_frames.proofs.not_read.Tie as tie
-use Rattle.host_frames.proofs.not_read.Reads as reads
-use Rattle.host_frames.proofs.not_read.Lts as lts
-use Rattle.boundary.proofs.refused.Reads as refused-reads
 
 refused-requires : tie.Need-refused-requires
 refused-requires c κs = search needs

@@ -3,12 +3,6 @@ use native.Mathlib.Omega.{arith}
 use borrow.Author.Needs.{needs}
 use Rattle.host_frames.proofs.numbers.Statement.{statement}
 use Rattle.host_frames.proofs.numbers.Tie as tie
-use Rattle.host_frames.proofs.numbers.Reads as reads
-use Rattle.host_frames.proofs.numbers.Lts as lts
-use Rattle.boundary.proofs.everyone_of.Reads as everyone-of-reads
-use Rattle.boundary.proofs.flag_of.Reads as flag-of-reads
-use Rattle.boundary.proofs.unit_of.Reads as unit-of-reads
-use Rattle.command.proofs.Command.to_byte.Reads as to-byte-reads
 
 everyone-of-requires : tie.Need-everyone-of-requires
 everyone-of-requires c κs = search needs
@@ -18,9 +12,6 @@ unit-of-requires c κs = search needs
 
 to-byte-requires : tie.Need-to-byte-requires
 to-byte-requires c κs = search needs
-
-cast-t9 : tie.Need-cast-t9
-cast-t9 c = search needs
 
 cast-t10 : tie.Need-cast-t10
 cast-t10 c = search needs
@@ -40,11 +31,11 @@ cast-t14 c = search needs
 cast-t15 : tie.Need-cast-t15
 cast-t15 c = search needs
 
+cast-t16 : tie.Need-cast-t16
+cast-t16 c = search needs
+
 flag-of-requires : tie.Need-flag-of-requires
 flag-of-requires c κs = search needs
-
-cast-t17 : tie.Need-cast-t17
-cast-t17 c = search needs
 
 cast-t18 : tie.Need-cast-t18
 cast-t18 c = search needs
@@ -53,7 +44,10 @@ cast-t19 : tie.Need-cast-t19
 cast-t19 c = search needs
 
 cast-t20 : tie.Need-cast-t20
-cast-t20 c = let g = c .struct-known9 .given .1 .1 .1 .1 .1 .1 .1 .1 .1 in record { fits = omega (arith, g .0) }
+cast-t20 c = search needs
+
+cast-t21 : tie.Need-cast-t21
+cast-t21 c = let g = c .struct-known9 .given .1 .1 .1 .1 .1 .1 .1 .1 .1 in record { fits = omega (arith, g .0) }
 
 returns : tie.Need-returns
 returns c = rw (c .before .before .before .flag-of .ensures, c .before .before .before .before .before .before .before .before .before .before .to-byte .ensures, c .before .before .before .before .before .before .before .before .before .before .before .unit-of .ensures, c .before .before .before .before .before .before .before .before .before .before .before .before .everyone-of .ensures)
@@ -65,16 +59,16 @@ numbers-spec =
     everyone-of-requires
     unit-of-requires
     to-byte-requires
-    cast-t9
     cast-t10
     cast-t11
     cast-t12
     cast-t13
     cast-t14
     cast-t15
+    cast-t16
     flag-of-requires
-    cast-t17
     cast-t18
     cast-t19
     cast-t20
+    cast-t21
     returns)

@@ -1,4 +1,0 @@
-pub mod Numbers
-pub mod Whole
-pub mod Tests
-pub mod Answers

@@ -1,3 +1,0 @@
-pub mod StateBytes
-pub mod Words
-pub mod Reading

@@ -1,0 +1,14 @@
+pub mod StateBytes
+pub mod Tests
+pub mod Statuses
+pub mod Told
+pub mod Runs
+pub mod On
+pub mod Moving
+pub mod Stores
+pub mod Whole
+pub mod FrameSteps
+pub mod InFrame
+pub mod OutsideSteps
+pub mod Reached
+pub mod Reading

@@ -1,0 +1,4 @@
+pub mod State
+pub mod Reports
+pub mod Feed
+pub mod quick
