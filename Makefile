@@ -1,7 +1,7 @@
 # The two commands: `make monitor` shows a sample in words, `make test` is the whole gate from nothing.
-# `make test` first runs the tests that stand outside Rattle, stops at the first failure, and ends with `rt ci`,
-# whose last line is 'N passed, M failed'. What needs Rust, a C compiler, valgrind or the original's sources is skipped aloud
-# where they are missing; with CI=true they must be there.
+# `make test` asks for the kit and the layout, runs `rt ci`, and then the tests that stand outside Rattle over what rt ci proved; rt ci's last
+# line, 'N passed, 0 failed', is printed behind all of them, and only if all passed. What needs Rust, a C compiler, valgrind or the original's
+# sources is skipped aloud where they are missing; with CI=true they must be there.
 
 KIT := rattle-kit-5b-plain logic 097e4c862dff5811
 SOURCES := $(or $(DEEPMIND_SRC),../shared/docs/src)
@@ -9,21 +9,30 @@ export DEEPMIND_SRC := $(abspath $(SOURCES))
 HOST := $(patsubst crates/%/src/lib.rt,%,$(shell grep -ls no_mangle crates/*/src/lib.rt))
 BELOW := $(sort $(filter-out $(HOST),$(foreach name,$(HOST),$(shell sed -n 's/^$(name)://p' crates.txt))))
 LIBRARY := target/staticlib/libcobnutdrill.a
+# What make itself is called: $(MAKE) in a recipe would run that line under `make -n` too.
+SELF := $(MAKE)
 CARGO := RUSTFLAGS="-D warnings" cargo
 IN_COMPARE := --quiet --release --offline --manifest-path compare/Cargo.toml --target-dir target/compare
 ORIGINAL := the comparison with the original Rust (DEEPMIND_SRC names its sources)
+
+# So many checks at a time, of 0.3 to 0.8 GB each: rt waits for the longest of each batch, and four at a time wait less than two.
+RT_JOBS ?= 4
+export RT_JOBS
+
+# Proves crates and says how far it is. The gate sets AS_PROVED: what its rt ci proved is then taken as it is, and nothing is proved again.
+prove = .ci/prove $(if $(AS_PROVED),--as-proved)
 
 # Ends a recipe where a tool or a folder is missing: well where that may be, and badly with CI=true.
 need = { .ci/need $(1); case $$? in 0) ;; 1) exit 0 ;; *) exit 1 ;; esac; }
 need_sources = $(call need,"$(ORIGINAL)" "$(SOURCES)/deepmind-midi")
 
-.PHONY: check test kit layout outside lib bench compare compare-all benchmark stack host test-rust test-host record recorded monitor test-monitor
+.PHONY: check test kit layout outside test-gate lib bench compare compare-all benchmark stack host test-rust test-host test-stack record recorded monitor test-monitor
 
 check: kit
 	@rt check
 
-test: kit layout outside
-	@rt ci
+test: kit layout
+	@.ci/gate 'rt ci' 'MAKEFLAGS= $(SELF) --no-print-directory AS_PROVED=yes outside'
 
 # The kit that the proofs were checked with.
 kit:
@@ -33,16 +42,17 @@ kit:
 layout:
 	@rt fmt --check
 
-# The archive for C and Rust to link: the entry points of every crate host_*. The crates below them are proved first, some at a time, since
-# rt staticlib proves what it lacks one after another.
+# The archive for C and Rust to link: the entry points of every crate host_*. The crates below them are proved first, some at a time; the
+# archives follow one after another, since two rt in one folder read each other's half-written verdicts.
 lib: kit $(LIBRARY)
 
 $(LIBRARY): $(shell find crates crates.txt -type f)
 	@command -v ar > /dev/null || { echo "make: ar is needed (binutils)" >&2; exit 1; }
 	@mkdir -p target/objects
-	@rt check $(BELOW) > target/lib.log 2>&1 || { tail -n 40 target/lib.log >&2; exit 1; }
+	@$(prove) target/lib.log $(BELOW) $(if $(AS_PROVED),$(HOST))
 	@for name in $(HOST); do \
-		rt staticlib $$name > target/lib.log 2>&1 || { tail -n 40 target/lib.log >&2; exit 1; }; \
+		echo "make: archive $$name"; \
+		rt staticlib $$name > target/objects/$$name.log 2>&1 || { tail -n 40 target/objects/$$name.log >&2; exit 1; }; \
 		(cd target/objects && ar x ../staticlib/lib$$name.a) || exit 1; \
 	done
 	@rm -f $@
@@ -91,8 +101,23 @@ test-rust: lib
 test-host: lib
 	@$(call need,"the tests of the header and the C host" gcc); mkdir -p target/host-test && examples/test-host $(LIBRARY) target/host-test
 
-# The tests that stand outside Rattle.
-outside: test-rust compare test-host recorded test-monitor
+# The reading of the stack: what it refuses, what it counts, and that dm_feed was not seen to take more.
+test-stack: lib
+	@$(call need,"the test of the reading of the stack" gcc ar objdump); mkdir -p target/stack-test && examples/test-stack $(LIBRARY) target/stack-test
+
+# The gate's own scripts, with stand-ins for rt and for the tests.
+test-gate:
+	@.ci/test-gate .ci/gate
+	@.ci/test-prove .ci/prove
+
+# The tests that stand outside Rattle. By itself this proves what has changed, and says how far it is.
+outside: test-gate
+outside: test-rust
+outside: compare
+outside: test-host
+outside: test-stack
+outside: recorded
+outside: test-monitor
 
 # The programs: the recorded answers of the original (crates/replay), and the monitor (crates/monitor).
 
@@ -113,7 +138,7 @@ recorded:
 # The monitor, at target/bin/monitor.
 target/bin/monitor: $(shell find crates crates.txt -type f)
 	@mkdir -p target
-	@rt check monitor > target/monitor.log 2>&1 || { tail -n 40 target/monitor.log >&2; exit 1; }
+	@$(prove) target/monitor.log monitor
 
 # The monitor over a sample: make monitor SAMPLE=FILE.
 SAMPLE ?= examples/pulled.syx
