@@ -10,23 +10,28 @@ use benchmark::time::{times, Effort};
 use benchmark::{chart::chart, count, run, workloads, Side, Workload};
 
 const USAGE: &str = "usage: benchmark [--quick] [FOLDER]
+       benchmark [--quick] --only NAME,NAME...
        benchmark --run SIDE NAME COUNT
   times the engine and the original Rust on the same inputs, which it makes itself, in some minutes, and prints a line a workload:
   its name, the engine's time over the original's, and the engine's instructions over the original's (- where valgrind is missing)
   FOLDER    a folder, in which it also writes BENCHMARK.md and benchmark.svg
   --quick   few repeats and no instructions: some seconds, and rough times
+  --only    these workloads alone, in the table's order
   --run     goes over the workload NAME COUNT times on one side (engine, original or memcpy) and prints the checksum: this is
             what callgrind counts";
 
 fn main() -> ExitCode {
     let words: Vec<String> = env::args().skip(1).collect();
     let words: Vec<&str> = words.iter().map(String::as_str).collect();
-    let done = match words[..] {
-        ["--run", side, name, count] => run_one(side, name, count),
-        ["--quick"] => measure(Effort::QUICK, false, None),
-        ["--quick", folder] if !folder.starts_with('-') => measure(Effort::QUICK, false, Some(folder)),
-        [] => measure(Effort::WHOLE, true, None),
-        [folder] if !folder.starts_with('-') => measure(Effort::WHOLE, true, Some(folder)),
+    let (effort, counting, rest) = match &words[..] {
+        ["--quick", rest @ ..] => (Effort::QUICK, false, rest),
+        rest => (Effort::WHOLE, true, rest),
+    };
+    let done = match (&words[..], rest) {
+        (["--run", side, name, count], _) => run_one(side, name, count),
+        (_, []) => measure(&workloads(), effort, counting, None),
+        (_, ["--only", names]) => only(names).and_then(|some| measure(&some, effort, counting, None)),
+        (_, [folder]) if !folder.starts_with('-') => measure(&workloads(), effort, counting, Some(folder)),
         _ => Err(USAGE.to_string()),
     };
     match done {
@@ -47,16 +52,26 @@ fn run_one(side: &str, name: &str, count: &str) -> Result<(), String> {
     say(&run::<false>(work, side, passes).sink.text())
 }
 
-/// Measures all workloads, prints the table, and writes it where a folder is named.
-fn measure(effort: Effort, counting: bool, folder: Option<&str>) -> Result<(), String> {
+/// The workloads of these names, with commas between them.
+fn only(names: &str) -> Result<Vec<Workload>, String> {
+    let all = workloads();
+    let wrong = names.split(',').find(|name| all.iter().all(|work| work.name != *name));
+    if let Some(name) = wrong {
+        let known: Vec<&str> = all.iter().map(|work| work.name).collect();
+        return Err(format!("benchmark: '{name}' is no workload; there are {}\n{USAGE}", known.join(", ")));
+    }
+    Ok(all.into_iter().filter(|work| names.split(',').any(|name| name == work.name)).collect())
+}
+
+/// Measures workloads, prints the table, and writes it where a folder is named.
+fn measure(all: &[Workload], effort: Effort, counting: bool, folder: Option<&str>) -> Result<(), String> {
     if let Some(folder) = folder.filter(|folder| !Path::new(folder).is_dir()) {
         return Err(format!("benchmark: {folder} is no folder\n{USAGE}"));
     }
-    let all = workloads();
     all.iter().try_for_each(alike)?;
     let counting = counting && (count::can_count() || missing());
     let program = env::current_exe().map_err(|error| format!("benchmark: the program's own place: {error}"))?;
-    let times = times(&all, effort);
+    let times = times(all, effort);
     let mut rows = Vec::new();
     for (work, times) in all.iter().zip(times) {
         let instructions = if counting { Some(count::ratio(&program, work).map_err(|why| format!("benchmark: {why}"))?) } else { None };

@@ -54,19 +54,38 @@ fn streams(random: &mut Numbers) -> Vec<Workload> {
     let short = edit_dumps(random, 8);
     let long = names_dumps(random, 2);
     let mixed = [&short[..], &long[..2354]].concat();
+    let (struck, held) = (notes(random), running(random));
+    let mut all = vec![
+        feed("notes", 0.6, struck.clone(), None, "notes on and off, each with its status byte, as one stream"),
+        feed("notes-running", 0.75, held.clone(), None, "notes under one running status, as one stream"),
+        feed("dump-289", 0.25, short.clone(), Some(289), "edit buffer dumps of 289 bytes, one a call"),
+        feed("dump-2354", 0.15, long.clone(), Some(2354), "bank name dumps of 2,354 bytes, one a call"),
+        feed("clocked-289", 0.6, clocked(&short, 289), Some(289 + 12), "the dumps of dump-289 with a clock behind each 24 bytes"),
+        feed("clocked-2354", 0.6, clocked(&long, 2354), Some(2354 + 98), "the dumps of dump-2354 with a clock behind each 24 bytes"),
+        feed("pieces-64", 0.45, mixed.clone(), Some(64), "eight dumps of 289 bytes and one of 2,354, handed in in pieces of 64 bytes"),
+        feed("pieces-1", 1.05, mixed, Some(1), "the stream of pieces-64, one byte a call"),
+        feed("frames-8", 0.8, requests(random, 128), Some(8), "requests of 8 bytes, one a call"),
+        feed("clocks", 1.15, vec![0xF8; 1024], Some(1), "clocks and nothing else, one a call"),
+        feed("random", 0.85, random.bytes(65_536), None, "bytes at random, as one stream"),
+        feed("stray", 0.1, random.data(4096), None, "data bytes outside any message, as one stream"),
+    ];
+    all.extend(stage(struck, held));
+    all
+}
+
+/// What else a stage has. These have numbers of their own, so that the bytes of the other workloads stay as they were.
+fn stage(struck: Vec<u8>, held: Vec<u8>) -> Vec<Workload> {
+    let random = &mut Numbers::new();
+    let code = time_code(random);
+    let both = code.chunks(2).zip(struck.chunks(3)).flat_map(|(quarter, note)| [quarter, note].concat()).collect();
     vec![
-        feed("notes", 0.65, notes(random), None, "notes on and off, each with its status byte, as one stream"),
-        feed("notes-running", 0.65, running(random), None, "notes under one running status, as one stream"),
-        feed("dump-289", 0.35, short.clone(), Some(289), "edit buffer dumps of 289 bytes, one a call"),
-        feed("dump-2354", 0.25, long.clone(), Some(2354), "bank name dumps of 2,354 bytes, one a call"),
-        feed("clocked-289", 0.5, clocked(&short, 289), Some(289 + 12), "the dumps of dump-289 with a clock behind each 24 bytes"),
-        feed("clocked-2354", 0.5, clocked(&long, 2354), Some(2354 + 98), "the dumps of dump-2354 with a clock behind each 24 bytes"),
-        feed("pieces-64", 0.6, mixed.clone(), Some(64), "eight dumps of 289 bytes and one of 2,354, handed in in pieces of 64 bytes"),
-        feed("pieces-1", 1.0, mixed, Some(1), "the stream of pieces-64, one byte a call"),
-        feed("frames-8", 1.0, requests(random, 128), Some(8), "requests of 8 bytes, one a call"),
-        feed("clocks", 1.0, vec![0xF8; 1024], Some(1), "clocks and nothing else, one a call"),
-        feed("random", 0.6, random.bytes(65_536), None, "bytes at random, as one stream"),
-        feed("stray", 0.3, random.data(4096), None, "data bytes outside any message, as one stream"),
+        feed("timecode", 0.95, code.clone(), None, "time code quarter frames, as one stream"),
+        feed("timecode-2", 0.85, code, Some(2), "the stream of timecode, two bytes a call"),
+        feed("position", 1.0, positions(random), None, "song positions and tune requests in turn, as one stream"),
+        feed("notes-1", 1.2, struck, Some(1), "the stream of notes, one byte a call"),
+        feed("running-1", 1.4, held, Some(1), "the stream of notes-running, one byte a call"),
+        feed("controls-clocked", 1.2, controls(random), None, "control changes, each with a clock inside, as one stream"),
+        feed("notes-timecode", 0.75, both, None, "the streams of timecode and notes, a message of each in turn, as one stream"),
     ]
 }
 
@@ -79,12 +98,12 @@ fn packing(random: &mut Numbers) -> Vec<Workload> {
         Workload { name, what, goal, call, bytes, piece }
     };
     vec![
-        of(Call::Pack, "pack-16", 0.5, 16, 128),
-        of(Call::Pack, "pack-245", 0.45, 245, 16),
-        of(Call::Pack, "pack-2048", 0.45, 2048, 2),
-        of(Call::Unpack, "unpack-16", 0.8, packed::packed_len(16), 128),
-        of(Call::Unpack, "unpack-245", 0.8, packed::packed_len(245), 16),
-        of(Call::Unpack, "unpack-2048", 0.8, packed::packed_len(2048), 2),
+        of(Call::Pack, "pack-16", 0.55, 16, 128),
+        of(Call::Pack, "pack-245", 0.4, 245, 16),
+        of(Call::Pack, "pack-2048", 0.4, 2048, 2),
+        of(Call::Unpack, "unpack-16", 0.75, packed::packed_len(16), 128),
+        of(Call::Unpack, "unpack-245", 0.75, packed::packed_len(245), 16),
+        of(Call::Unpack, "unpack-2048", 0.75, packed::packed_len(2048), 2),
     ]
 }
 
@@ -94,10 +113,10 @@ fn frames(random: &mut Numbers) -> Vec<Workload> {
     vec![
         of(Call::Read, "read-8", 0.6, &small, 8, "requests of 8 bytes, read"),
         of(Call::Read, "read-291", 0.15, &middle, 291, "program dumps of 291 bytes, read"),
-        of(Call::Read, "read-2354", 0.15, &long, 2354, "bank name dumps of 2,354 bytes, read"),
+        of(Call::Read, "read-2354", 0.1, &long, 2354, "bank name dumps of 2,354 bytes, read"),
         of(Call::Write, "write-8", 0.6, &small, 8, "the records of read-8, written"),
         of(Call::Write, "write-291", 0.25, &middle, 291, "the records of read-291, written"),
-        of(Call::Write, "write-2354", 0.25, &long, 2354, "the records of read-2354, written"),
+        of(Call::Write, "write-2354", 0.15, &long, 2354, "the records of read-2354, written"),
     ]
 }
 
@@ -115,6 +134,26 @@ fn notes(random: &mut Numbers) -> Vec<u8> {
 fn running(random: &mut Numbers) -> Vec<u8> {
     let mut bytes = vec![0x90];
     bytes.extend(random.data(2 * 1024));
+    bytes
+}
+
+/// Quarter frames: the eight of a time in turn, each with four bits of it.
+fn time_code(random: &mut Numbers) -> Vec<u8> {
+    (0..1024).flat_map(|count: u16| [0xF1, (count % 8) as u8 * 16 + random.byte() % 16]).collect()
+}
+
+/// Song positions, each with a tune request behind it.
+fn positions(random: &mut Numbers) -> Vec<u8> {
+    (0..512).flat_map(|_| [0xF2, random.data_byte(), random.data_byte(), 0xF6]).collect()
+}
+
+/// Control changes with a clock behind the status byte and behind the controller in turn.
+fn controls(random: &mut Numbers) -> Vec<u8> {
+    let mut bytes = Vec::new();
+    for count in 0..1024 {
+        let (status, controller, value) = (0xB0 + random.byte() % 16, random.data_byte(), random.data_byte());
+        bytes.extend_from_slice(&if count % 2 == 0 { [status, 0xF8, controller, value] } else { [status, controller, 0xF8, value] });
+    }
     bytes
 }
 

@@ -9,7 +9,7 @@ use benchmark::page::{page, Row};
 use benchmark::time::{times, Effort};
 use benchmark::{run, workloads, Side};
 
-const NAMES: [&str; 24] = [
+const NAMES: [&str; 31] = [
     "notes",
     "notes-running",
     "dump-289",
@@ -22,6 +22,13 @@ const NAMES: [&str; 24] = [
     "clocks",
     "random",
     "stray",
+    "timecode",
+    "timecode-2",
+    "position",
+    "notes-1",
+    "running-1",
+    "controls-clocked",
+    "notes-timecode",
     "pack-16",
     "pack-245",
     "pack-2048",
@@ -66,6 +73,24 @@ fn another_byte_is_another_checksum() {
 }
 
 #[test]
+fn every_byte_of_a_stage_stream_is_read_on_both_sides() {
+    let stage = NAMES.iter().skip_while(|name| **name != "timecode").take_while(|name| **name != "pack-16");
+    let stage: Vec<&str> = stage.copied().chain(["notes", "notes-running"]).collect();
+    let sides = [Side::Engine, Side::Original];
+    for mut work in workloads().into_iter().filter(|work| stage.contains(&work.name)) {
+        let before = sides.map(|side| run::<false>(&work, side, 1).sink);
+        for back in 1..=8 {
+            let at = work.bytes.len() - back;
+            work.bytes[at] ^= 1;
+            let [engine, original] = sides.map(|side| run::<false>(&work, side, 1).sink);
+            assert_eq!(engine, original, "{}, another byte {at}", work.name);
+            assert!(before.iter().all(|sink| *sink != engine), "{}, another byte {at}", work.name);
+            work.bytes[at] ^= 1;
+        }
+    }
+}
+
+#[test]
 fn the_table_has_a_line_a_bar_and_a_goal_for_each() {
     let all = workloads();
     let effort = Effort { rounds: 1, repeats: 1, least: std::time::Duration::ZERO };
@@ -83,9 +108,9 @@ fn the_table_has_a_line_a_bar_and_a_goal_for_each() {
         .collect();
     assert_eq!(rows[0].line().split(' ').count(), 3);
     assert!(rows[0].line().starts_with("notes ") && rows[0].line().ends_with(" -"));
-    assert_eq!(page(&rows, effort).lines().filter(|line| NAMES.iter().any(|name| line.starts_with(&format!("| {name} | ")))).count(), 24);
-    assert_eq!(chart(&rows).matches("class=\"bar\"").count(), 24);
-    assert_eq!(chart(&rows).matches("class=\"goal\"").count(), 24);
+    assert_eq!(page(&rows, effort).lines().filter(|line| NAMES.iter().any(|name| line.starts_with(&format!("| {name} | ")))).count(), NAMES.len());
+    assert_eq!(chart(&rows).matches("class=\"bar\"").count(), NAMES.len());
+    assert_eq!(chart(&rows).matches("class=\"goal\"").count(), NAMES.len());
 }
 
 const PROGRAM: &str = env!("CARGO_BIN_EXE_benchmark");
@@ -104,9 +129,27 @@ fn one_side_of_one_workload_is_run() {
 }
 
 #[test]
+fn named_workloads_alone_are_measured() {
+    for names in ["clocks,notes", "notes,clocks", "notes,clocks,notes"] {
+        let said = said(&["--quick", "--only", names]);
+        let lines = String::from_utf8_lossy(&said.stdout).into_owned();
+        let lines: Vec<&str> = lines.lines().collect();
+        assert!(said.status.success());
+        assert!(lines.len() == 2 && lines[0].starts_with("notes ") && lines[1].starts_with("clocks "), "{lines:?}");
+    }
+}
+
+#[test]
 fn wrong_words_are_told_how_it_is_used() {
     for words in [
         &["--what"][..],
+        &["--only"],
+        &["--only", "x"],
+        &["--only", "notes,x"],
+        &["--only", ""],
+        &["--only", "notes", "clocks"],
+        &["--quick", "--only"],
+        &["--quick", "--run", "engine", "notes", "1"],
         &["a", "b"],
         &["--run"],
         &["--run", "nobody", "notes", "1"],

@@ -1,7 +1,7 @@
 //! Rows picked by hand, each with the place that it comes from: MIDI 1.0 (Detailed Specification), by its headings, and the documentation of
 //! the Rust, by its files. Both benches must answer as the row says.
 
-use words::examples::{of_original, EXAMPLES};
+use words::examples::{examples, of_original};
 use words::parse;
 
 use crate::Tally;
@@ -97,7 +97,7 @@ pub const RUST: [Row; 37] = [
 
 /// Asks every row, and the examples of the bench's page.
 pub fn ask(tally: &mut Tally) {
-    let page = EXAMPLES.iter().map(|(request, answer)| ("the bench's page", *request, *answer));
+    let page = examples().into_iter().map(|(request, answer)| ("the bench's page", request, answer));
     for (source, request, answer) in MIDI.iter().chain(&RUST).copied().chain(page) {
         match parse(request) {
             Ok(asked) => tally.row(&asked, &of_original(request, answer), answer),

@@ -1,12 +1,13 @@
 //! The bench's examples, answered by the engine's program; malformed lines stand between them.
 
-use words::examples::{through, EXAMPLES};
+use words::examples::{self, through};
 
 #[test]
 fn examples() {
-    let requests: Vec<&str> = EXAMPLES.iter().map(|(request, _)| *request).collect();
+    let rows = examples::examples();
+    let requests: Vec<&str> = rows.iter().map(|(request, _)| *request).collect();
     let said = through(env!("CARGO_BIN_EXE_bench"), &requests);
-    for ((request, answer), said) in EXAMPLES.iter().zip(said) {
+    for ((request, answer), said) in rows.iter().zip(said) {
         assert_eq!(said, *answer, "{request}");
     }
 }

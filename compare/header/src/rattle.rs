@@ -100,8 +100,8 @@ fn refusals(text: &str) -> Vec<(String, u64)> {
     each(body, "Refusal::", |arm| Some((constant_in_c(word(arm).0), number(arm.split_once("=>")?.1.split_once(',')?.0)?)))
 }
 
-/// Reads the engine's sources, each with the name of its crate. Constants of the crates that have or serve the entry points must stand in
-/// the header; those of other crates may.
+/// Reads the engine's sources, each with the name of its crate, or of its module below it. Constants of the crates that have or serve the
+/// entry points must stand in the header; those of other crates, and of modules of the crates that serve, may.
 #[must_use]
 pub fn engine(sources: &[(String, String)]) -> Side {
     let mut side = Side::default();
@@ -113,7 +113,7 @@ pub fn engine(sources: &[(String, String)]) -> Side {
         }
         assert_eq!(text.matches("no_mangle").count(), text.matches("#[no_mangle]\npub extern \"C\" fn ").count(), "another form of export in {name}");
         records(&text, "#[repr(C)]", &mut side);
-        let at_the_boundary = name.starts_with("host") || name.ends_with("_bytes") || name == "report_numbers" || name == "boundary";
+        let at_the_boundary = name.starts_with("host") || name == "stream" || name == "held_bytes" || name == "boundary";
         for (constant, value) in constants(&text) {
             let into = if at_the_boundary { &mut side.constants } else { &mut side.others };
             if into.insert(constant.clone(), value).is_some_and(|before| before != value) {

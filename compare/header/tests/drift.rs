@@ -13,7 +13,7 @@ fn text(path: &str) -> String {
     fs::read_to_string(root().join(path)).unwrap_or_else(|error| panic!("{path}: {error}"))
 }
 
-/// Every source of every crate, with the crate's name.
+/// Every source of every crate, with the crate's name; behind it `::` and the file's, where that is not the crate's root.
 fn sources() -> Vec<(String, String)> {
     let mut all = Vec::new();
     let mut crates: Vec<PathBuf> = fs::read_dir(root().join("crates")).expect("crates").map(|entry| entry.expect("a crate").path()).collect();
@@ -23,7 +23,9 @@ fn sources() -> Vec<(String, String)> {
         let Ok(files) = fs::read_dir(folder.join("src")) else { continue };
         for file in files {
             let path = file.expect("a source").path();
-            all.push((name.clone(), fs::read_to_string(&path).expect("a source")));
+            let module = path.file_stem().expect("a name").to_string_lossy().into_owned();
+            let name = if module == "lib" { name.clone() } else { format!("{name}::{module}") };
+            all.push((name, fs::read_to_string(&path).expect("a source")));
         }
     }
     all

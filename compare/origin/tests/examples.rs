@@ -1,13 +1,14 @@
 //! The bench's examples, answered by the original's program.
 
 use origin::bench::Origin;
-use words::examples::{of_original, through, EXAMPLES};
+use words::examples::{self, of_original, through};
 
 #[test]
 fn examples() {
-    let requests: Vec<&str> = EXAMPLES.iter().map(|(request, _)| *request).collect();
+    let rows = examples::examples();
+    let requests: Vec<&str> = rows.iter().map(|(request, _)| *request).collect();
     let said = through(env!("CARGO_BIN_EXE_bench-origin"), &requests);
-    for ((request, answer), said) in EXAMPLES.iter().zip(said) {
+    for ((request, answer), said) in rows.iter().zip(said) {
         assert_eq!(said, of_original(request, answer), "{request}");
     }
 }
