@@ -1,8 +1,8 @@
 // The words of frames.
 use crate::line;
 use crate::said;
-use device::DeviceId;
-use fields::Fields;
+use ids::DeviceId;
+use message::Fields;
 use message::Frame;
 use message::FrameAnswer;
 use refusal::Count;

@@ -1,6 +1,6 @@
 // A request taken apart: words stand between single spaces, numbers are decimal, bytes are plain hexadecimal, `-` for none.
 ghost use Rattle.io.specs.Counts.{Counts};
-use device::DeviceId;
+use ids::DeviceId;
 
 // The place behind the next space, or the end where there is none.
 pub fn behind(ask: &[u8], at: usize) -> usize {

@@ -1,8 +1,8 @@
 // Answers as the bench writes them.
 use refusal::Count;
 use refusal::Refusal;
-use refusal_text::details;
-use refusal_text::then_number;
+use text::refusals::details;
+use text::refusals::then_number;
 
 // `ok` and a number.
 pub fn ok_number(out: &mut [u8], n: u64) -> usize {

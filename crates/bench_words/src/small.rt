@@ -1,26 +1,26 @@
 // The words of one number.
 use crate::said;
-use channel_message::ChannelMessage;
-use channel_message::MaybeLen;
 use command::Command;
 use command::CommandAnswer;
-use device::DeviceAnswer;
-use device::DeviceId;
 use ids::Bank;
 use ids::BankAnswer;
+use ids::DeviceAnswer;
+use ids::DeviceId;
+use ids::Interface;
+use ids::InterfaceAnswer;
 use ids::PatternAnswer;
 use ids::PatternNumber;
 use ids::ProgramAnswer;
 use ids::ProgramNumber;
-use interface::Interface;
-use interface::InterfaceAnswer;
-use protocol::ProtocolVersion;
-use protocol::VersionAnswer;
-use real_time::MaybeRealtime;
-use real_time::Realtime;
+use ids::ProtocolVersion;
+use ids::VersionAnswer;
 use refusal::Refusal;
 use wire::Channel;
 use wire::ChannelAnswer;
+use wire::ChannelMessage;
+use wire::MaybeLen;
+use wire::MaybeRealtime;
+use wire::Realtime;
 
 // A number, none, or why not.
 pub enum Small {

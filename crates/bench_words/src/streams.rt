@@ -1,13 +1,13 @@
 // The words of the decoder, from a fresh one each time.
 use crate::line;
-use channel_message::ChannelMessage;
 use decoder::Decoder;
 use decoder::Fed;
 use decoder::FeedAnswer;
 use decoder::MaybeReport;
 use decoder::Report;
-use system_common::SystemCommon;
 use wire::Channel;
+use wire::ChannelMessage;
+use wire::SystemCommon;
 
 // How far a stream has come: the decoder's state, the end of the text so far, and the place of the next byte.
 struct Told {

@@ -1,13 +1,13 @@
 // Packed runs, channel messages and identity: the words of bytes.
 use crate::line;
 use crate::said;
-use channel_message::ChannelMessage;
-use device::DeviceAnswer;
-use device::DeviceId;
-use identity::Identity;
-use identity::Version;
-use inquiry_reply::IdentityAnswer;
+use ids::DeviceAnswer;
+use ids::DeviceId;
+use inquiry::Identity;
+use inquiry::IdentityAnswer;
+use inquiry::Version;
 use wire::Channel;
+use wire::ChannelMessage;
 
 fn length(n: u64) -> usize {
     n as usize
@@ -22,7 +22,7 @@ pub fn ulen(ask: &[u8], at: usize, out: &mut [u8]) -> usize {
 }
 
 fn packs(raw: &[u8], lent: &mut [u8], out: &mut [u8]) -> usize {
-    let count = packing::pack_into(raw, lent);
+    let count = packed::packing::pack_into(raw, lent);
     said::wrote(out, count, lent)
 }
 
@@ -35,7 +35,7 @@ pub fn pack(ask: &[u8], at: usize, out: &mut [u8]) -> usize {
 }
 
 fn unpacks(run: &[u8], lent: &mut [u8], out: &mut [u8]) -> usize {
-    let count = unpacking::unpack_into(run, lent);
+    let count = packed::unpacking::unpack_into(run, lent);
     said::wrote(out, count, lent)
 }
 
@@ -102,7 +102,7 @@ pub fn chan(ask: &[u8], at: usize, out: &mut [u8]) -> usize {
 pub fn ireq(ask: &[u8], at: usize, out: &mut [u8]) -> usize {
     let mut bytes = io::buffer();
     let n = line::bytes(ask, at, &mut bytes);
-    match inquiry_request::parse_request(&bytes[..n]) {
+    match inquiry::request::parse_request(&bytes[..n]) {
         DeviceAnswer::Ok(device) => said::ok_byte(out, device.to_byte()),
         DeviceAnswer::Err(e) => said::refused(out, e),
     }
@@ -130,14 +130,14 @@ fn tells(identity: Identity, out: &mut [u8]) -> usize {
 pub fn irep(ask: &[u8], at: usize, out: &mut [u8]) -> usize {
     let mut bytes = io::buffer();
     let n = line::bytes(ask, at, &mut bytes);
-    match inquiry_reply::parse_reply(&bytes[..n]) {
+    match inquiry::reply::parse_reply(&bytes[..n]) {
         IdentityAnswer::Ok(identity) => tells(identity, out),
         IdentityAnswer::Err(e) => said::refused(out, e),
     }
 }
 
 fn requests(device: DeviceId, lent: &mut [u8], out: &mut [u8]) -> usize {
-    let count = inquiry_request::request_into(device, lent);
+    let count = inquiry::request::request_into(device, lent);
     said::wrote(out, count, lent)
 }
 
@@ -148,7 +148,7 @@ pub fn wreq(ask: &[u8], at: usize, out: &mut [u8]) -> usize {
 }
 
 fn replies(identity: Identity, lent: &mut [u8], out: &mut [u8]) -> usize {
-    let count = inquiry_reply::reply_into(identity, lent);
+    let count = inquiry::reply::reply_into(identity, lent);
     said::wrote(out, count, lent)
 }
 

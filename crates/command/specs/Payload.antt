@@ -2,7 +2,7 @@
 use mathlib.Core.List.{List, [], _∷_, map}
 use Prim.Native.Nat.{ℕ}
 use lib.ListN.{length}
-use Rattle.protocol.specs.Version.{programDataLength}
+use Rattle.ids.specs.Version.{programDataLength}
 use Rattle.command.specs.declared.Command.{Command}
 use Rattle.command.specs.declared.Command.the-variants as k
 use Rattle.command.specs.declared.Row.{Row}

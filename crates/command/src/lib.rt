@@ -2,7 +2,7 @@
 ghost use mathlib.Core.Path.{_≡_};
 ghost use Rattle.command.specs.Command.{codeOf, commandOf, commandTold, directionOf, placeOf};
 ghost use Rattle.command.specs.Payload.{rowOf, rawLengthFor};
-use protocol::ProtocolVersion;
+use ids::ProtocolVersion;
 use refusal::Refusal;
 
 // Which way a message travels.

@@ -9,8 +9,8 @@ use native.Mathlib.Omega.{arith}
 use lib.ListN.{length}
 use Rattle.refusal.specs.Outcome.{gives, refused}
 use Rattle.wire.specs.Status.{dataLength}
-use Rattle.channel_message.specs.declared.ChannelMessage.the-variants as w
-use Rattle.real_time.specs.declared.Realtime.the-variants as t
+use Rattle.wire.specs.declared.channel_message.ChannelMessage.the-variants as w
+use Rattle.wire.specs.declared.real_time.Realtime.the-variants as t
 use Rattle.decoder.specs.State.{limit, fresh}
 use Rattle.decoder.specs.Step.{classOf}
 use Rattle.decoder.specs.Reports.{channel, realtime, frame}

@@ -11,10 +11,10 @@ use lib.Seq.{take-suc-set}
 use borrow.Author.Tests.{ltb-true, ltb-false, eqb-true, lt-ltb, le-ltb, le-leb, lt-leb, eq-eqb, ne-eqb}
 use Rattle.laws.proofs.Tests.{split, both, true-is-not-false}
 use Rattle.wire.specs.Status.{dataLength, isChannelStatus}
-use Rattle.real_time.specs.Realtime.{realtimeOf}
-use Rattle.system_common.specs.declared.SystemCommon.the-variants as y
-use Rattle.real_time.specs.declared.MaybeRealtime.{MaybeRealtime}
-use Rattle.real_time.specs.declared.MaybeRealtime.the-variants as t
+use Rattle.wire.specs.RealTime.{realtimeOf}
+use Rattle.wire.specs.declared.system_common.SystemCommon.the-variants as y
+use Rattle.wire.specs.declared.real_time.MaybeRealtime.{MaybeRealtime}
+use Rattle.wire.specs.declared.real_time.MaybeRealtime.the-variants as t
 use Rattle.wire.proofs.DataLength.{none-of-data, none-of-start, none-above}
 use Rattle.decoder.specs.declared.RunningStatus.the-variants as s
 use Rattle.decoder.specs.declared.Decoder.{Decoder}

@@ -15,3 +15,4 @@ pub mod FrameLimit
 pub mod Rows
 pub mod WritersRead
 pub mod Example
+pub mod Condition3InPlace

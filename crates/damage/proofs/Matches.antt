@@ -12,12 +12,12 @@ use borrow.Author.Tests.{ltb-true, ltb-false, leb-true, leb-false, eqb-true, eqb
 use Rattle.laws.specs.Choice.{pick}
 use Rattle.laws.proofs.Tests.{by-test, split}
 use Rattle.wire.specs.Status.{dataLength, isChannelStatus}
-use Rattle.channel_message.specs.Message.{channelMessage}
-use Rattle.system_common.specs.Common.{commonMessage}
-use Rattle.channel_message.specs.declared.MaybeChannelMessage.{MaybeChannelMessage}
-use Rattle.channel_message.specs.declared.MaybeChannelMessage.the-variants as c
-use Rattle.system_common.specs.declared.MaybeSystemCommon.{MaybeSystemCommon}
-use Rattle.system_common.specs.declared.MaybeSystemCommon.the-variants as g
+use Rattle.wire.specs.ChannelMessage.{channelMessage}
+use Rattle.wire.specs.SystemCommon.{commonMessage}
+use Rattle.wire.specs.declared.channel_message.MaybeChannelMessage.{MaybeChannelMessage}
+use Rattle.wire.specs.declared.channel_message.MaybeChannelMessage.the-variants as c
+use Rattle.wire.specs.declared.system_common.MaybeSystemCommon.{MaybeSystemCommon}
+use Rattle.wire.specs.declared.system_common.MaybeSystemCommon.the-variants as g
 use Rattle.decoder.specs.declared.RunningStatus.{RunningStatus}
 use Rattle.decoder.specs.declared.RunningStatus.the-variants as s
 use Rattle.decoder.specs.declared.Decoder.{Decoder}

@@ -10,14 +10,14 @@ use Rattle.laws.proofs.Tests.{split, both}
 use Rattle.refusal.specs.Outcome.{gives}
 use Rattle.wire.specs.Status.{dataLength, isChannelStatus}
 use Rattle.wire.specs.declared.Channel.{Channel}
-use Rattle.channel_message.specs.declared.ChannelMessage.{ChannelMessage}
-use Rattle.channel_message.specs.declared.ChannelMessage.the-variants as w
-use Rattle.system_common.specs.declared.SystemCommon.{SystemCommon}
-use Rattle.system_common.specs.declared.SystemCommon.the-variants as y
-use Rattle.channel_message.specs.Message.{statusNibble, dataBytes}
-use Rattle.system_common.specs.Common.{commonBytes, commonMessage, commonInRange}
-use Rattle.channel_message.proofs.Bytes.{nibble-range}
-use Rattle.read_back.proofs.ReadBack.{channel-reads-back, channel-data-length, common-reads-back}
+use Rattle.wire.specs.declared.channel_message.ChannelMessage.{ChannelMessage}
+use Rattle.wire.specs.declared.channel_message.ChannelMessage.the-variants as w
+use Rattle.wire.specs.declared.system_common.SystemCommon.{SystemCommon}
+use Rattle.wire.specs.declared.system_common.SystemCommon.the-variants as y
+use Rattle.wire.specs.ChannelMessage.{statusNibble, dataBytes}
+use Rattle.wire.specs.SystemCommon.{commonBytes, commonMessage, commonInRange}
+use Rattle.wire.proofs.channel_message.Bytes.{nibble-range}
+use Rattle.wire.proofs.ReadBack.{channel-reads-back, channel-data-length, common-reads-back}
 use Rattle.decoder.specs.declared.Class.{Class}
 use Rattle.decoder.specs.declared.Class.the-variants as k
 use Rattle.decoder.specs.State.{limit}

@@ -6,9 +6,9 @@ use Prim.Native.Nat.{ℕ, _≤_}
 use lib.ListN.{length, replicate}
 use Rattle.refusal.specs.Outcome.{gives, refused}
 use Rattle.wire.specs.Status.{dataLength}
-use Rattle.channel_message.specs.declared.ChannelMessage.the-variants as w
-use Rattle.system_common.specs.declared.SystemCommon.the-variants as y
-use Rattle.real_time.specs.declared.Realtime.the-variants as t
+use Rattle.wire.specs.declared.channel_message.ChannelMessage.the-variants as w
+use Rattle.wire.specs.declared.system_common.SystemCommon.the-variants as y
+use Rattle.wire.specs.declared.real_time.Realtime.the-variants as t
 use Rattle.decoder.specs.declared.Report.the-variants as r
 use Rattle.decoder.specs.declared.MaybeReport.the-variants as m
 use Rattle.decoder.specs.State.{limit, fresh}

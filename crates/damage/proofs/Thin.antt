@@ -8,7 +8,7 @@ use lib.ListN.{length, take}
 use Rattle.refusal.specs.Outcome.{Outcome, gives, refused}
 use Rattle.decoder.specs.declared.Decoder.{Decoder}
 use Rattle.decoder.specs.State.{limit, sound, reset}
-use Rattle.decoder.specs.Call.{Walked, walk, call, answerOf, storeOf}
+use Rattle.decoder.specs.Call.{Walked, walk, call, fedOf, storeOf}
 use Rattle.decoder.proofs.Calling.{short-refused, ready-walks}
 use Rattle.damage.specs.Reported.{Reported}
 use Rattle.damage.specs.Caller.{soleCaller, Call, CallLog, belonging, Made, Exactly}
@@ -23,9 +23,9 @@ use Rattle.damage.proofs.Promises.{promises}
 -- what a decoder's call came to, as the caller sees it
 pub record IsCall {State Answer : Type 0} (used : Answer → Outcome ℕ) (tells : Answer → List ℕ → List Reported) (kept : Decoder → State)
     (o : Outcome Walked) (d : Decoder) (store : List ℕ) (answer : Answer) (next : State) (left : List ℕ) : Type 0 where
-  pub count : used answer ≡ fedCount (answerOf o)
-  pub told : tells answer left ≡ fedReports (answerOf o) (storeOf o store)
-  pub state : next ≡ kept (fedState (answerOf o) d)
+  pub count : used answer ≡ fedCount (fedOf o)
+  pub told : tells answer left ≡ fedReports (fedOf o) (storeOf o store)
+  pub state : next ≡ kept (fedState (fedOf o) d)
   pub store-is : left ≡ storeOf o store
 
 -- what has to be shown of such a caller: the form in which it keeps a state, and that each of its calls on a sound one is the decoder's
@@ -61,13 +61,13 @@ module _ {State Answer : Type 0} (contract : State → List ℕ → List ℕ →
             record {
               count = w .fed .used;
               stops = b .used;
-              used = k .count ∙ ap (λ (z : Outcome Walked). fedCount (answerOf z)) o;
-              tells = ap (belonging (w .fed .used)) (k .told ∙ ap (λ (z : Outcome Walked). fedReports (answerOf z) (storeOf z (p .1))) o) ∙ b .heard;
+              used = k .count ∙ ap (λ (z : Outcome Walked). fedCount (fedOf z)) o;
+              tells = ap (belonging (w .fed .used)) (k .told ∙ ap (λ (z : Outcome Walked). fedReports (fedOf z) (storeOf z (p .1))) o) ∙ b .heard;
               later = (w .fed .state, w .store);
               rest = b .rest;
               holds =
                   record {
-                    state-is = k .state ∙ ap (λ (z : Outcome Walked). x .kept (fedState (answerOf z) d)) o;
+                    state-is = k .state ∙ ap (λ (z : Outcome Walked). x .kept (fedState (fedOf z) d)) o;
                     store-is = k .store-is ∙ ap (λ (z : Outcome Walked). storeOf z (p .1)) o;
                     ok = b .sound-after;
                     room = subst (λ (l : ℕ). limit ≤ l) (sym (b .length-after)) (held .room);
@@ -77,10 +77,10 @@ module _ {State Answer : Type 0} (contract : State → List ℕ → List ℕ →
             λ p state store other bytes answer next left held small met. let d = p .0 in
             let o : call d other bytes ≡ refused 20 [] = short-refused d other bytes small in
             let k = x .is-call d other bytes answer next left (held .ok) (subst (λ (s : State). contract s other bytes answer next left) (held .state-is) met) in (
-              k .count ∙ ap (λ (z : Outcome Walked). fedCount (answerOf z)) o,
-              k .told ∙ ap (λ (z : Outcome Walked). fedReports (answerOf z) (storeOf z other)) o,
+              k .count ∙ ap (λ (z : Outcome Walked). fedCount (fedOf z)) o,
+              k .told ∙ ap (λ (z : Outcome Walked). fedReports (fedOf z) (storeOf z other)) o,
               record {
-                state-is = k .state ∙ ap (λ (z : Outcome Walked). x .kept (fedState (answerOf z) d)) o;
+                state-is = k .state ∙ ap (λ (z : Outcome Walked). x .kept (fedState (fedOf z) d)) o;
                 store-is = held .store-is;
                 ok = held .ok;
                 room = held .room;

@@ -9,10 +9,10 @@ use native.Mathlib.Omega.{arith}
 use lib.ListN.{drop}
 use Rattle.laws.proofs.Tests.{both}
 use borrow.Author.Tests.{ltb-true}
-use Rattle.system_common.specs.declared.SystemCommon.the-variants as y
-use Rattle.channel_message.specs.Message.{statusNibble, dataBytes}
-use Rattle.real_time.specs.Realtime.{realtimeOf}
-use Rattle.channel_message.proofs.Bytes.{nibble-range}
+use Rattle.wire.specs.declared.system_common.SystemCommon.the-variants as y
+use Rattle.wire.specs.ChannelMessage.{statusNibble, dataBytes}
+use Rattle.wire.specs.RealTime.{realtimeOf}
+use Rattle.wire.proofs.channel_message.Bytes.{nibble-range}
 use Rattle.decoder.specs.declared.Class.the-variants as k
 use Rattle.decoder.specs.Step.{classOf}
 use Rattle.decoder.specs.Reports.{Event}

@@ -14,17 +14,17 @@ use Rattle.refusal.specs.Outcome.{gives, Writes, withRoom}
 use Rattle.refusal.specs.declared.Count.the-variants as n
 use Rattle.refusal.proofs.Given.{given-not-refused}
 use Rattle.wire.specs.declared.Channel.{Channel}
-use Rattle.channel_message.specs.declared.ChannelMessage.{ChannelMessage}
-use Rattle.system_common.specs.declared.SystemCommon.{SystemCommon}
-use Rattle.system_common.specs.declared.SystemCommon.the-variants as y
-use Rattle.system_common.specs.declared.CommonStatus.{CommonStatus}
-use Rattle.real_time.specs.declared.Realtime.{Realtime}
-use Rattle.real_time.specs.declared.Realtime.the-variants as t
-use Rattle.channel_message.specs.Message.{channelBytes, channelWrite, messageInRange}
-use Rattle.system_common.specs.Common.{common, commonBytes, commonInRange, commonWrite}
-use Rattle.real_time.specs.Realtime.{realtimeByte, realtimeWrite}
-use Rattle.channel_message.proofs.Bytes.{channel-length}
-use Rattle.read_back.proofs.ReadBack.{realtime-reads-back}
+use Rattle.wire.specs.declared.channel_message.ChannelMessage.{ChannelMessage}
+use Rattle.wire.specs.declared.system_common.SystemCommon.{SystemCommon}
+use Rattle.wire.specs.declared.system_common.SystemCommon.the-variants as y
+use Rattle.wire.specs.declared.system_common.CommonStatus.{CommonStatus}
+use Rattle.wire.specs.declared.real_time.Realtime.{Realtime}
+use Rattle.wire.specs.declared.real_time.Realtime.the-variants as t
+use Rattle.wire.specs.ChannelMessage.{channelBytes, channelWrite, messageInRange}
+use Rattle.wire.specs.SystemCommon.{common, commonBytes, commonInRange, commonWrite}
+use Rattle.wire.specs.RealTime.{realtimeByte, realtimeWrite}
+use Rattle.wire.proofs.channel_message.Bytes.{channel-length}
+use Rattle.wire.proofs.ReadBack.{realtime-reads-back}
 use Rattle.decoder.specs.State.{limit, fresh}
 use Rattle.decoder.specs.Reports.{Event, realtime}
 use Rattle.decoder.proofs.Limit.{room-for-three}

@@ -8,7 +8,7 @@ use Rattle.decoder.specs.declared.Decoder.{Decoder}
 use Rattle.decoder.specs.declared.Fed.{Fed}
 use Rattle.decoder.specs.declared.FeedAnswer.{FeedAnswer}
 use Rattle.decoder.specs.Step.{step, stored}
-use Rattle.decoder.specs.Call.{call, answerOf, storeOf, answered, Feeds}
+use Rattle.decoder.specs.Call.{call, fedOf, storeOf, answered, Feeds}
 use Rattle.decoder.specs.Reports.{reportList, toldAll}
 use Rattle.damage.specs.Reported.{Reported}
 use Rattle.damage.specs.Caller.{Caller, soleCaller, Call, give, lend-short, CallLog, bytesUsed, inFront}
@@ -41,10 +41,10 @@ unfoldable pub logOf : List (Call byValue) → Decoder → List ℕ → List ℕ
 logOf [] d store bytes = record { answers = []; reports = [] }
 logOf (give n ∷ cs) d store bytes =
     let o = call d store (take n bytes) in
-    inFront (fedCount (answerOf o)) (fedReports (answerOf o) (storeOf o store)) (logOf cs (fedState (answerOf o) d) (storeOf o store) (drop (bytesUsed (fedCount (answerOf o))) bytes))
+    inFront (fedCount (fedOf o)) (fedReports (fedOf o) (storeOf o store)) (logOf cs (fedState (fedOf o) d) (storeOf o store) (drop (bytesUsed (fedCount (fedOf o))) bytes))
 logOf (lend-short other others short ∷ cs) d store bytes =
     let o = call d other others in
-    inFront (fedCount (answerOf o)) (fedReports (answerOf o) (storeOf o other)) (logOf cs (fedState (answerOf o) d) store bytes)
+    inFront (fedCount (fedOf o)) (fedReports (fedOf o) (storeOf o other)) (logOf cs (fedState (fedOf o) d) store bytes)
 
 -- what the bytes report if they come singly: each byte's reports, a frame's bytes read from the store that it leaves
 unfoldable pub singly : Decoder → List ℕ → List ℕ → List (List Reported)

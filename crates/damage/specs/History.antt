@@ -8,14 +8,14 @@ use lib.ListN.{length, getD}
 use Rattle.laws.specs.Choice.{pick}
 use Rattle.refusal.specs.Outcome.{gives}
 use Rattle.wire.specs.Status.{dataLength, isChannelStatus}
-use Rattle.channel_message.specs.Message.{channelMessage}
-use Rattle.system_common.specs.Common.{commonMessage}
-use Rattle.real_time.specs.Realtime.{realtimeOf}
-use Rattle.channel_message.specs.declared.MaybeChannelMessage.{MaybeChannelMessage}
-use Rattle.channel_message.specs.declared.MaybeChannelMessage.the-variants as c
-use Rattle.system_common.specs.declared.SystemCommon.the-variants as y
-use Rattle.system_common.specs.declared.MaybeSystemCommon.{MaybeSystemCommon}
-use Rattle.system_common.specs.declared.MaybeSystemCommon.the-variants as g
+use Rattle.wire.specs.ChannelMessage.{channelMessage}
+use Rattle.wire.specs.SystemCommon.{commonMessage}
+use Rattle.wire.specs.RealTime.{realtimeOf}
+use Rattle.wire.specs.declared.channel_message.MaybeChannelMessage.{MaybeChannelMessage}
+use Rattle.wire.specs.declared.channel_message.MaybeChannelMessage.the-variants as c
+use Rattle.wire.specs.declared.system_common.SystemCommon.the-variants as y
+use Rattle.wire.specs.declared.system_common.MaybeSystemCommon.{MaybeSystemCommon}
+use Rattle.wire.specs.declared.system_common.MaybeSystemCommon.the-variants as g
 use Rattle.decoder.specs.declared.Class.{Class}
 use Rattle.decoder.specs.declared.Class.the-variants as k
 use Rattle.decoder.specs.State.{limit}

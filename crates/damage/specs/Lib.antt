@@ -9,3 +9,4 @@ pub mod History
 pub mod Meaning
 pub mod Calls
 pub mod Promises
+pub mod InPlaceCalls

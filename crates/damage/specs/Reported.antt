@@ -1,8 +1,8 @@
 -- A report in document 01's terms.
 use mathlib.Core.List.{List, [], _∷_}
 use Rattle.refusal.specs.Outcome.{Outcome, gives, refused}
-use Rattle.real_time.specs.declared.MaybeRealtime.{MaybeRealtime}
-use Rattle.real_time.specs.declared.MaybeRealtime.the-variants as t
+use Rattle.wire.specs.declared.real_time.MaybeRealtime.{MaybeRealtime}
+use Rattle.wire.specs.declared.real_time.MaybeRealtime.the-variants as t
 use Rattle.decoder.specs.State.{limit}
 use Rattle.decoder.specs.Reports.{Event, realtime}
 

@@ -6,11 +6,11 @@ use lib.Dec.{ltb, leb}
 use lib.ListN.{length}
 use Rattle.refusal.specs.Outcome.{gives}
 use Rattle.wire.specs.declared.Channel.{Channel}
-use Rattle.channel_message.specs.declared.ChannelMessage.{ChannelMessage}
-use Rattle.system_common.specs.declared.SystemCommon.{SystemCommon}
-use Rattle.channel_message.specs.Message.{channelBytes, messageInRange}
-use Rattle.system_common.specs.Common.{commonBytes, commonInRange}
-use Rattle.real_time.specs.Realtime.{realtimeOf}
+use Rattle.wire.specs.declared.channel_message.ChannelMessage.{ChannelMessage}
+use Rattle.wire.specs.declared.system_common.SystemCommon.{SystemCommon}
+use Rattle.wire.specs.ChannelMessage.{channelBytes, messageInRange}
+use Rattle.wire.specs.SystemCommon.{commonBytes, commonInRange}
+use Rattle.wire.specs.RealTime.{realtimeOf}
 use Rattle.decoder.specs.State.{limit}
 use Rattle.decoder.specs.Reports.{Event, channel, common, frame}
 use Rattle.damage.specs.Reported.{Reported, heardRealtime}

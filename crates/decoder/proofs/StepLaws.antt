@@ -10,8 +10,8 @@ use borrow.Author.Tests.{lt-ltb, le-ltb, le-leb}
 use Rattle.laws.specs.Choice.{pick}
 use Rattle.laws.proofs.Tests.{by-test, true-is-not-false}
 use Rattle.wire.specs.Status.{dataLength}
-use Rattle.real_time.specs.Realtime.{realtimeOf}
-use Rattle.system_common.specs.declared.SystemCommon.the-variants as y
+use Rattle.wire.specs.RealTime.{realtimeOf}
+use Rattle.wire.specs.declared.system_common.SystemCommon.the-variants as y
 use Rattle.decoder.specs.declared.RunningStatus.{RunningStatus}
 use Rattle.decoder.specs.declared.RunningStatus.the-variants as s
 use Rattle.decoder.specs.declared.Decoder.{Decoder}

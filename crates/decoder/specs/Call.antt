@@ -63,9 +63,9 @@ abbrev pub call : Decoder → List ℕ → List ℕ → Outcome Walked
 call d store bytes = unless (ready d store) 20 [] (gives (walk d store bytes))
 
 -- the answer, without the store
-abbrev pub answerOf : Outcome Walked → Outcome Fed
-answerOf (gives w) = gives (w .fed)
-answerOf (refused n values) = refused n values
+abbrev pub fedOf : Outcome Walked → Outcome Fed
+fedOf (gives w) = gives (w .fed)
+fedOf (refused n values) = refused n values
 
 -- the store afterwards; a refused call leaves it as it was
 abbrev pub storeOf : Outcome Walked → List ℕ → List ℕ
@@ -79,5 +79,5 @@ answered (a.Err e) = refusal e
 
 -- the whole of what a call does: its answer, with the state, and every byte of the lent store afterwards
 pub record Feeds (o : Outcome Walked) (answer : FeedAnswer) (before afterwards : List ℕ) : Type 0 where
-  pub answers : answered answer ≡ answerOf o
+  pub answers : answered answer ≡ fedOf o
   pub leaves : afterwards ≡ storeOf o before

@@ -2,3 +2,4 @@ pub mod State
 pub mod Step
 pub mod Call
 pub mod Reports
+pub mod InPlace

@@ -6,9 +6,9 @@ use lib.ListN.{take}
 use Rattle.refusal.specs.Outcome.{Outcome, gives, refusal}
 use Rattle.refusal.specs.declared.Refusal.the-variants as e
 use Rattle.wire.specs.declared.Channel.{Channel}
-use Rattle.channel_message.specs.declared.ChannelMessage.{ChannelMessage}
-use Rattle.system_common.specs.declared.SystemCommon.{SystemCommon}
-use Rattle.real_time.specs.declared.Realtime.{Realtime}
+use Rattle.wire.specs.declared.channel_message.ChannelMessage.{ChannelMessage}
+use Rattle.wire.specs.declared.system_common.SystemCommon.{SystemCommon}
+use Rattle.wire.specs.declared.real_time.Realtime.{Realtime}
 use Rattle.decoder.specs.declared.Report.{Report}
 use Rattle.decoder.specs.declared.Report.the-variants as r
 use Rattle.decoder.specs.declared.MaybeReport.{MaybeReport}

@@ -6,16 +6,16 @@ use lib.Dec.{ltb, leb, eqb}
 use lib.ListN.{set}
 use Rattle.laws.specs.Choice.{pick}
 use Rattle.wire.specs.Status.{dataLength, isChannelStatus}
-use Rattle.channel_message.specs.Message.{channelMessage}
-use Rattle.system_common.specs.Common.{commonMessage}
-use Rattle.real_time.specs.Realtime.{realtimeOf}
-use Rattle.channel_message.specs.declared.MaybeChannelMessage.{MaybeChannelMessage}
-use Rattle.channel_message.specs.declared.MaybeChannelMessage.the-variants as c
-use Rattle.system_common.specs.declared.SystemCommon.the-variants as y
-use Rattle.system_common.specs.declared.MaybeSystemCommon.{MaybeSystemCommon}
-use Rattle.system_common.specs.declared.MaybeSystemCommon.the-variants as g
-use Rattle.real_time.specs.declared.MaybeRealtime.{MaybeRealtime}
-use Rattle.real_time.specs.declared.MaybeRealtime.the-variants as t
+use Rattle.wire.specs.ChannelMessage.{channelMessage}
+use Rattle.wire.specs.SystemCommon.{commonMessage}
+use Rattle.wire.specs.RealTime.{realtimeOf}
+use Rattle.wire.specs.declared.channel_message.MaybeChannelMessage.{MaybeChannelMessage}
+use Rattle.wire.specs.declared.channel_message.MaybeChannelMessage.the-variants as c
+use Rattle.wire.specs.declared.system_common.SystemCommon.the-variants as y
+use Rattle.wire.specs.declared.system_common.MaybeSystemCommon.{MaybeSystemCommon}
+use Rattle.wire.specs.declared.system_common.MaybeSystemCommon.the-variants as g
+use Rattle.wire.specs.declared.real_time.MaybeRealtime.{MaybeRealtime}
+use Rattle.wire.specs.declared.real_time.MaybeRealtime.the-variants as t
 use Rattle.decoder.specs.declared.RunningStatus.{RunningStatus}
 use Rattle.decoder.specs.declared.RunningStatus.the-variants as s
 use Rattle.decoder.specs.declared.Decoder.{Decoder}
@@ -107,16 +107,16 @@ collect (s.Status v) d b =
     (record { state = completed v (d .data0) b; interrupted = false; report = messageReport v (d .data0) b })
 
 -- a status byte 80 to F6: "in a frame gives report 18, then its own effect"
-abbrev pub statusByte : Decoder → Decoder → MaybeReport → Stepped
-statusByte d next effect = record { state = next; interrupted = d .in_sysex; report = effect }
+abbrev pub interrupting : Decoder → Decoder → MaybeReport → Stepped
+interrupting d next effect = record { state = next; interrupted = d .in_sysex; report = effect }
 
 -- one byte's effect by its class. What the store holds plays no part
 abbrev pub stepIn : Class → Decoder → ℕ → Stepped
 stepIn k.Data d b = pick (d .in_sysex) (pick (ltb (d .len) limit) (silent (longer d)) (tooLong d)) (collect (d .status) d b)
-stepIn k.Held d b = statusByte d (holding d b) m.None
-stepIn k.Start d b = statusByte d (opened d) m.None
-stepIn k.Undefined d b = statusByte d (cleared d) m.None
-stepIn k.Tune d b = statusByte d (cleared d) (m.Some (r.Common y.TuneRequest))
+stepIn k.Held d b = interrupting d (holding d b) m.None
+stepIn k.Start d b = interrupting d (opened d) m.None
+stepIn k.Undefined d b = interrupting d (cleared d) m.None
+stepIn k.Tune d b = interrupting d (cleared d) (m.Some (r.Common y.TuneRequest))
 stepIn k.End d b =
     pick (d .in_sysex) (pick (ltb (d .len) limit) (reporting (cleared d) (r.SysEx (d .len + 1))) (tooLong d)) (silent (cleared d))
 stepIn k.Realtime d b = record { state = d; interrupted = false; report = realtimeReport (realtimeOf b) }

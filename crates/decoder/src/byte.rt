@@ -1,7 +1,7 @@
 // One byte: its class, the message that it completes, and what a step gives back.
 ghost use mathlib.Core.Path.{_≡_};
-ghost use Rattle.real_time.specs.Realtime.{realtimeOf};
-ghost use Rattle.decoder.specs.Step.{classOf, messageReport, commonReport, realtimeReport, kept, silent, reporting, tooLong, statusByte};
+ghost use Rattle.wire.specs.RealTime.{realtimeOf};
+ghost use Rattle.decoder.specs.Step.{classOf, messageReport, commonReport, realtimeReport, kept, silent, reporting, tooLong, interrupting};
 ghost use Rattle.decoder.specs.Call.{reports};
 use crate::Class;
 use crate::Decoder;
@@ -10,13 +10,13 @@ use crate::MaybeReport;
 use crate::Report;
 use crate::RunningStatus;
 use crate::Stepped;
-use channel_message::ChannelMessage;
-use channel_message::MaybeChannelMessage;
-use real_time::MaybeRealtime;
-use real_time::Realtime;
-use system_common::MaybeSystemCommon;
-use system_common::SystemCommon;
 use wire::Channel;
+use wire::ChannelMessage;
+use wire::MaybeChannelMessage;
+use wire::MaybeRealtime;
+use wire::MaybeSystemCommon;
+use wire::Realtime;
+use wire::SystemCommon;
 
 pub fn class_of(byte: u8) -> Class
     ensures { λ r. ⌜ r ≡ classOf byte ⌝ }
@@ -125,7 +125,7 @@ pub fn too_long(state: Decoder) -> Stepped
 
 // A status byte below F7 breaks off an open frame.
 pub fn status_byte(state: Decoder, next: Decoder, report: MaybeReport) -> Stepped
-    ensures { λ r. ⌜ r ≡ statusByte state next report ⌝ }
+    ensures { λ r. ⌜ r ≡ interrupting state next report ⌝ }
 {
     Stepped {
         state: next,

@@ -6,13 +6,15 @@ ghost use Rattle.decoder.specs.State.{limit, noStatus, waitsSoundly, sou
 ghost use Rattle.decoder.specs.Step.{step, stored, opened, holding, longer, waiting, completed, collect};
 ghost use Rattle.decoder.specs.Call.{walk, Walks, call, Feeds};
 
+pub mod by_value;
 mod byte;
+pub mod in_place;
 
-use channel_message::ChannelMessage;
-use real_time::Realtime;
 use refusal::Refusal;
-use system_common::SystemCommon;
 use wire::Channel;
+use wire::ChannelMessage;
+use wire::Realtime;
+use wire::SystemCommon;
 
 // The frame limit: the longest frame that is kept, F0 and F7 counted.
 pub const MAX_SYSEX_LEN: usize = 2354;

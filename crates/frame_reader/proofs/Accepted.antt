@@ -11,7 +11,7 @@ use Rattle.laws.specs.Choice.{pick}
 use Rattle.laws.proofs.Tests.{both, alike, alike-same}
 use Rattle.refusal.specs.Outcome.{Outcome, gives, unless}
 use Rattle.refusal.proofs.Given.{passed, passed-on, given-first}
-use Rattle.device.specs.Device.{deviceOf}
+use Rattle.ids.specs.Device.{deviceOf}
 use Rattle.command.specs.declared.Command.{Command}
 use Rattle.command.specs.Command.{codeOf, commandOf}
 use Rattle.command.specs.Payload as y
@@ -21,10 +21,10 @@ use Rattle.packed.specs.Packed.{packedLength}
 use Rattle.framing.specs.declared.MaybeByte.the-variants as m
 use Rattle.framing.specs.Framing.{framed, body, firstHigh, whenSevenBit, sameBytes}
 use Rattle.framing.proofs.Bytes.{same-is, no-high}
-use Rattle.fields.specs.declared.Fields.{Fields}
-use Rattle.payload.specs.Wire.{carriesRun, optional, fieldList, fieldsAt, fieldFits, fieldRefusal, fieldOk, allFit, checked}
+use Rattle.message.specs.declared.fields.Fields.{Fields}
+use Rattle.message.specs.Prefix.{carriesRun, optional, fieldList, fieldsAt, fieldFits, fieldRefusal, fieldOk, allFit, checked}
 use Rattle.frame_reader.specs.declared.Record.{Record}
-use Rattle.payload_reader.specs.Payload.{accepted, numberedBy, prefixLength, early, isAny, whenRun, readFields, readShort, readRun, readDump, readPayload}
+use Rattle.frame_reader.specs.Payload.{accepted, numberedBy, prefixLength, early, isAny, whenRun, readFields, readShort, readRun, readDump, readPayload}
 use Rattle.frame_reader.specs.Reader.{payload, maker, readCommand, readHeader, readRecord}
 
 -- fields that were given all fit, and are the ones that were read

@@ -15,16 +15,16 @@ use Rattle.laws.proofs.Tests.{both, split}
 use Rattle.command.specs.declared.Command.{Command}
 use Rattle.command.specs.Payload as y
 use Rattle.command.specs.Payload.{payloadOf}
-use Rattle.fields.specs.declared.Fields.{Fields}
+use Rattle.message.specs.declared.fields.Fields.{Fields}
 use Rattle.refusal.specs.declared.Refusal.{Refusal}
 use Rattle.refusal.specs.Outcome.{Outcome, gives, refused, refusal, andThen}
-use Rattle.payload.specs.Wire.{optional, fieldList, carriesRun}
+use Rattle.message.specs.Prefix.{optional, fieldList, carriesRun}
 use Rattle.frame_reader.specs.declared.Record.{Record}
-use Rattle.payload_reader.specs.Payload.{numberedBy, prefixLength}
+use Rattle.frame_reader.specs.Payload.{numberedBy, prefixLength}
 use Rattle.frame_reader.specs.declared.Place.{Place}
 use Rattle.frame_reader.specs.declared.Located.{Located}
 use Rattle.frame_reader.specs.Reader.{payload, readRecord, runIn, runOf, placeIn, runPlace, withPlace, readLocated}
-use Rattle.payload_reader.proofs.Tests.{numbered-short, optional-is}
+use Rattle.frame_reader.proofs.payload.Tests.{numbered-short, optional-is}
 use Rattle.frame_reader.proofs.Accepted.{Described, described}
 
 -- dropping from a part of a list

@@ -8,13 +8,13 @@ use lib.ListN.{length, getD, take, drop}
 use denote.Ref.{RefT, now}
 use Rattle.laws.specs.Choice.{pick}
 use Rattle.refusal.specs.Outcome.{Outcome, gives, refused, refusal, unless, andThen}
-use Rattle.device.specs.Device.{deviceOf}
+use Rattle.ids.specs.Device.{deviceOf}
 use Rattle.command.specs.Command.{commandOf}
 use Rattle.framing.specs.Framing.{whenFramed, whenSevenBit, body, sameBytes}
 use Rattle.message.specs.declared.head.Frame.{Frame}
 use Rattle.message.specs.Head.{headFrom}
-use Rattle.payload.specs.Wire.{carriesRun, fieldList}
-use Rattle.payload_reader.specs.Payload.{readPayload}
+use Rattle.message.specs.Prefix.{carriesRun, fieldList}
+use Rattle.frame_reader.specs.Payload.{readPayload}
 use Rattle.frame_reader.specs.declared.Record.{Record}
 use Rattle.frame_reader.specs.declared.RecordAnswer.{RecordAnswer}
 use Rattle.frame_reader.specs.declared.RecordAnswer.the-variants as ra

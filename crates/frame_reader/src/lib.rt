@@ -3,18 +3,22 @@ ghost use mathlib.Core.Path.{_≡_};
 ghost use Prim.Native.Nat.{_+_, _-_, _≤_};
 ghost use lib.ListN.{length};
 ghost use Rattle.laws.specs.Choice.{pick};
-ghost use Rattle.payload.specs.Wire.{carriesRun, fieldList};
+ghost use Rattle.message.specs.Prefix.{carriesRun, fieldList};
 ghost use Rattle.message.specs.Head.{frameTold};
 ghost use Rattle.frame_reader.specs.Reader.{readHeader, readRecord, recordTold, readLocated, locatedTold, placeIn, parsed, RunLent};
+
+pub mod payload;
+pub mod view;
+
 use command::Command;
 use command::CommandAnswer;
-use device::DeviceAnswer;
-use device::DeviceId;
-use fields::Fields;
+use ids::DeviceAnswer;
+use ids::DeviceId;
+use message::Fields;
+use message::FieldsAnswer;
 use message::Frame;
 use message::FrameAnswer;
 use message::Head;
-use payload::FieldsAnswer;
 use refusal::Refusal;
 
 // What a frame says as plain fields; its run lies beside it, in the caller's bytes.
@@ -69,7 +73,7 @@ fn read_header(bytes: &[u8]) -> RecordAnswer
             CommandAnswer::Err(e) => RecordAnswer::Err(e),
             CommandAnswer::Ok(command) => {
                 let end = len - 1;
-                match payload_reader::read_payload(command, &bytes[7..end]) {
+                match crate::payload::read_payload(command, &bytes[7..end]) {
                     FieldsAnswer::Err(e) => RecordAnswer::Err(e),
                     FieldsAnswer::Ok(fields) => RecordAnswer::Ok(Record {
                         device,
@@ -108,7 +112,7 @@ pub fn parse(bytes: &[u8]) -> FrameAnswer
             let command = record.command;
             FrameAnswer::Ok(Frame {
                 device,
-                head: Head::tested(command, fields),
+                head: Head::from_tested(command, fields),
             })
         }
     }
@@ -121,10 +125,10 @@ fn place_of(frame: Record, len: usize) -> Place
 {
     let command = frame.command;
     let fields = frame.fields;
-    if !payload::carries_run(command) {
+    if !message::prefix::carries_run(command) {
         return Place { start: 0, len: 0 };
     }
-    let start = 7 + payload::prefix_of(command, fields).len;
+    let start = 7 + message::prefix::prefix_of(command, fields).len;
     Place {
         start,
         len: len - 1 - start,

@@ -15,12 +15,12 @@ use Rattle.refusal.specs.declared.Count.the-variants as c
 use Rattle.refusal.specs.Outcome.{gives, unless, Writes}
 use Rattle.refusal.proofs.Given.{passed-on}
 use Rattle.refusal.proofs.Written.{counted-first, stopped, went-on}
-use Rattle.device.specs.declared.DeviceId.{DeviceId}
-use Rattle.device.specs.Device.{deviceByte}
+use Rattle.ids.specs.declared.device.DeviceId.{DeviceId}
+use Rattle.ids.specs.Device.{deviceByte}
 use Rattle.command.specs.declared.Command.{Command}
 use Rattle.command.specs.Command.{codeOf}
-use Rattle.fields.specs.declared.Fields.{Fields}
-use Rattle.payload.specs.Wire.{carriesRun, prefixOf, checkedFields}
+use Rattle.message.specs.declared.fields.Fields.{Fields}
+use Rattle.message.specs.Prefix.{carriesRun, prefixOf, checkedFields}
 use Rattle.framing.specs.declared.MaybeByte.the-variants as m
 use Rattle.framing.specs.Framing.{firstHigh}
 use Rattle.frame_writer.specs.Writer.{row, ownRun, lengthFor, sevenBitWrite, roomWrite, fieldsWrite}

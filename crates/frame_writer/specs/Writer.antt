@@ -6,16 +6,16 @@ use lib.Dec.{ltb, leb}
 use lib.ListN.{length}
 use Rattle.laws.specs.Choice.{pick}
 use Rattle.refusal.specs.Outcome.{Outcome, gives, unless, andThen}
-use Rattle.device.specs.declared.DeviceId.{DeviceId}
-use Rattle.device.specs.Device.{deviceByte, deviceInRange}
+use Rattle.ids.specs.declared.device.DeviceId.{DeviceId}
+use Rattle.ids.specs.Device.{deviceByte, deviceInRange}
 use Rattle.command.specs.declared.Command.{Command}
 use Rattle.command.specs.Command.{codeOf, commandOf}
 use Rattle.framing.specs.Framing.{whenSevenBit}
-use Rattle.fields.specs.declared.Fields.{Fields}
+use Rattle.message.specs.declared.fields.Fields.{Fields}
 use Rattle.message.specs.declared.head.Head.{Head}
 use Rattle.message.specs.declared.head.Frame.{Frame}
 use Rattle.message.specs.Head.{commandOfHead, fieldsOf}
-use Rattle.payload.specs.Wire.{carriesRun, prefixOf, checkedFields}
+use Rattle.message.specs.Prefix.{carriesRun, prefixOf, checkedFields}
 
 -- "Row: F0 00 20 32 20, device, command, payload, F7"
 abbrev pub header : ℕ → ℕ → List ℕ

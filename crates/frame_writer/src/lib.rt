@@ -4,17 +4,20 @@ ghost use mathlib.Core.List.{_++_};
 ghost use Prim.Native.Nat.{_+_, _≤_};
 ghost use lib.ListN.{length, drop};
 ghost use Rattle.laws.specs.Choice.{pick};
-ghost use Rattle.payload.specs.Wire.{carriesRun};
+ghost use Rattle.message.specs.Prefix.{carriesRun};
 ghost use Rattle.refusal.specs.Outcome.{Writes, counted};
 ghost use Rattle.frame_writer.specs.Writer.{lengthFor, headLength, header, row, frameWrite, recordWrite, fieldsWrite, sevenBitWrite};
+
+pub mod view;
+
 use command::Command;
 use command::CommandAnswer;
-use device::DeviceId;
-use fields::Fields;
 use framing::MaybeByte;
+use ids::DeviceId;
+use message::Fields;
+use message::FieldsAnswer;
 use message::Frame;
 use message::Head;
-use payload::FieldsAnswer;
 use refusal::Count;
 use refusal::Refusal;
 
@@ -27,7 +30,7 @@ pub const OVERHEAD_LEN: usize = 8;
 fn own_len(command: Command, run_len: usize) -> usize
     ensures { λ r. ⌜ r ≡ pick (carriesRun command) «run_len» 0 ⌝ }
 {
-    if !payload::carries_run(command) {
+    if !message::prefix::carries_run(command) {
         return 0;
     }
     run_len
@@ -39,7 +42,7 @@ fn frame_len(command: Command, prefix_len: usize, run_len: usize) -> Count
     ensures { λ r. ⌜ counted r ≡ lengthFor command «prefix_len» «run_len» ⌝ }
 {
     let fixed = OVERHEAD_LEN + prefix_len;
-    if !payload::carries_run(command) {
+    if !message::prefix::carries_run(command) {
         return Count::Ok(fixed);
     }
     if 0xFFFF_FFFF_FFFF_FFFF - fixed < run_len {
@@ -53,7 +56,7 @@ pub fn encoded_len(head: Head, run_len: usize) -> Count
     ensures { λ r. ⌜ counted r ≡ headLength head «run_len» ⌝ }
 {
     let command = head.command();
-    let prefix = payload::prefix_of(command, head.to_fields());
+    let prefix = message::prefix::prefix_of(command, head.to_fields());
     frame_len(command, prefix.len, run_len)
 }
 
@@ -107,7 +110,7 @@ fn put_frame(device: u8, code: u8, prefix: &[u8], run: &[u8], out: &mut [u8])
     put_header(device, code, out);
     put_prefix(prefix, &mut out[7..]);
     let at = 7 + prefix.len();
-    byte_copies::copy_into(run, &mut out[at..]);
+    octets::copies::copy_into(run, &mut out[at..]);
     let end = at + run.len();
     out[end] = framing::SYSEX_END;
 }
@@ -145,10 +148,10 @@ fn write_fields(
 ) -> Count
     ensures { λ r. ⌜ Writes (fieldsWrite device command fields (now (run .entry)) (length (now (out .entry)))) r (now (out .entry)) (now (out .exit)) ⌝ }
 {
-    match payload::check(command, fields) {
+    match message::prefix::check(command, fields) {
         FieldsAnswer::Err(e) => Count::Err(e),
         FieldsAnswer::Ok(_) => {
-            let prefix = payload::prefix_of(command, fields);
+            let prefix = message::prefix::prefix_of(command, fields);
             let len = prefix.len;
             match frame_len(command, len, run.len()) {
                 Count::Err(e) => Count::Err(e),

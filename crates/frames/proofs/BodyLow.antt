@@ -10,9 +10,9 @@ use lib.Seq.{take-at}
 use borrow.Author.Tests.{lt-ltb, ltb-true}
 use Rattle.refusal.specs.Outcome.{gives}
 use Rattle.refusal.proofs.Given.{passed, passed-on, given-first}
-use Rattle.device.specs.declared.DeviceId.{DeviceId}
-use Rattle.device.specs.declared.DeviceId.the-variants as d
-use Rattle.device.specs.Device.{deviceByte, deviceInRange}
+use Rattle.ids.specs.declared.device.DeviceId.{DeviceId}
+use Rattle.ids.specs.declared.device.DeviceId.the-variants as d
+use Rattle.ids.specs.Device.{deviceByte, deviceInRange}
 use Rattle.command.specs.declared.Command.{Command}
 use Rattle.command.specs.Command.{codeOf}
 use Rattle.command.proofs.Table.{of-every}
@@ -21,7 +21,7 @@ use Rattle.framing.specs.declared.MaybeByte.the-variants as m
 use Rattle.framing.proofs.Bytes.{no-high}
 use Rattle.message.specs.declared.head.Frame.{Frame}
 use Rattle.message.specs.Head.{commandOfHead, fieldsOf}
-use Rattle.payload.specs.Wire.{prefixOf, checkedFields}
+use Rattle.message.specs.Prefix.{prefixOf, checkedFields}
 use Rattle.frame_writer.specs.Writer.{row, ownRun, lengthFor, sevenBitWrite, roomWrite, fieldsWrite, frameWrite}
 
 -- a body between its ends

@@ -18,12 +18,12 @@ use Rattle.command.specs.Payload.{payloadOf, rawLengthFor}
 use Rattle.command.proofs.Table.{of-every}
 use Rattle.packed.specs.Packed.{packedLength}
 use Rattle.framing.specs.Framing.{sameBytes}
-use Rattle.fields.specs.declared.Fields.{Fields}
-use Rattle.payload.specs.Wire.{carriesRun, optional, fieldList, fieldsAt, allFit}
+use Rattle.message.specs.declared.fields.Fields.{Fields}
+use Rattle.message.specs.Prefix.{carriesRun, optional, fieldList, fieldsAt, allFit}
 use Rattle.frame_reader.specs.declared.Record.{Record}
-use Rattle.payload_reader.specs.Payload.{accepted, numberedBy, prefixLength, early, isAny, whenRun, versionIn, readFields, readShort, readRun, readDump, readPayload}
+use Rattle.frame_reader.specs.Payload.{accepted, numberedBy, prefixLength, early, isAny, whenRun, versionIn, readFields, readShort, readRun, readDump, readPayload}
 use Rattle.frame_reader.specs.Reader.{payload, maker, readRecord}
-use Rattle.payload.proofs.ByKind.{version-leads}
+use Rattle.message.proofs.prefix.ByKind.{version-leads}
 use Rattle.frame_reader.proofs.Accepted.{Payload, Described, runFits, described, fit-given, no-option}
 
 -- a dump's first byte is its version

@@ -10,19 +10,19 @@ use borrow.Author.Tests.{ltb-true}
 use Rattle.laws.proofs.Tests.{both}
 use Rattle.refusal.specs.Outcome.{Outcome, gives, unless}
 use Rattle.refusal.proofs.Given.{given-first}
-use Rattle.device.specs.Device.{deviceByte, deviceInRange}
+use Rattle.ids.specs.Device.{deviceByte, deviceInRange}
 use Rattle.command.specs.declared.Command.{Command}
 use Rattle.command.specs.declared.Command.the-variants as k
 use Rattle.command.specs.Payload as y
 use Rattle.command.proofs.Table.{code-reads-back}
-use Rattle.fields.specs.declared.Fields.{Fields}
+use Rattle.message.specs.declared.fields.Fields.{Fields}
 use Rattle.message.specs.declared.head.Frame.{Frame}
-use Rattle.interface.specs.Interface.{interfaceAt, interfaceByte}
-use Rattle.fields.specs.Fields.{notifyFields}
+use Rattle.ids.specs.Interface.{interfaceAt, interfaceByte}
+use Rattle.message.specs.Fields.{notifyFields}
 use Rattle.message.specs.Head.{commandOfHead, fieldsOf, headFrom}
-use Rattle.payload.specs.Wire.{fieldList, fieldsAt, allFit}
+use Rattle.message.specs.Prefix.{fieldList, fieldsAt, allFit}
 use Rattle.frame_reader.specs.declared.Record.{Record}
-use Rattle.payload_reader.specs.Payload.{numberedBy}
+use Rattle.frame_reader.specs.Payload.{numberedBy}
 use Rattle.frame_reader.specs.Reader.{payload, readRecord, frameOf, parsed, runOf}
 use Rattle.frame_reader.proofs.Accepted.{Described, described}
 use Rattle.frame_writer.specs.Writer.{fieldsWrite, frameWrite}

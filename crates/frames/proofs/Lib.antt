@@ -4,3 +4,6 @@ pub mod RoundTrip
 pub mod Complete
 pub mod Heads
 pub mod BodyLow
+pub mod Reported
+pub mod NamesDropped
+pub mod MarkedRows

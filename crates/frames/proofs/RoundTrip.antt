@@ -13,8 +13,8 @@ use Rattle.laws.specs.Tabulate.{tab}
 use Rattle.laws.proofs.Tests.{both}
 use Rattle.laws.proofs.Tabulate.{tab-same}
 use Rattle.refusal.specs.Outcome.{gives}
-use Rattle.device.specs.Device.{deviceByte, deviceInRange}
-use Rattle.device.proofs.Range.{device-in-range}
+use Rattle.ids.specs.Device.{deviceByte, deviceInRange}
+use Rattle.ids.proofs.device.Range.{device-in-range}
 use Rattle.command.specs.declared.Command.{Command}
 use Rattle.command.specs.declared.Command.the-variants as k
 use Rattle.command.specs.Command.{codeOf, commands}
@@ -23,10 +23,10 @@ use Rattle.command.proofs.Table.{read-code, code-reads-back}
 use Rattle.framing.specs.declared.MaybeByte.the-variants as m
 use Rattle.framing.specs.Framing.{body, firstHigh}
 use Rattle.framing.proofs.Bytes.{spelled, high-none-behind}
-use Rattle.fields.specs.declared.Fields.{Fields}
-use Rattle.payload.specs.Wire.{carriesRun, fieldList, fieldsAt, wire, prefixOf, allFit, fieldFits, checkedFields}
+use Rattle.message.specs.declared.fields.Fields.{Fields}
+use Rattle.message.specs.Prefix.{carriesRun, fieldList, fieldsAt, wire, prefixOf, allFit, fieldFits, checkedFields}
 use Rattle.frame_reader.specs.declared.Record.{Record}
-use Rattle.payload_reader.specs.Payload.{numberedBy, prefixLength}
+use Rattle.frame_reader.specs.Payload.{numberedBy, prefixLength}
 use Rattle.frame_reader.specs.Reader.{payload, maker, readRecord, runIn, runOf}
 use Rattle.frame_reader.proofs.Accepted.{Described, described, fit-given, no-option}
 use Rattle.frame_reader.proofs.RunPlace.{own-list, length-payload, prefix-there}

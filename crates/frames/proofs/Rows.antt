@@ -2,7 +2,7 @@
 use mathlib.Core.Path.{_≡_, refl}
 use mathlib.Core.List.{[], _∷_}
 use Rattle.refusal.specs.Outcome.{gives, refused}
-use Rattle.device.specs.declared.DeviceId.the-variants as d
+use Rattle.ids.specs.declared.device.DeviceId.the-variants as d
 use Rattle.message.specs.declared.head.Head.the-variants as h
 use Rattle.frame_reader.specs.Reader.{readRecord, parsed}
 

@@ -9,7 +9,7 @@ use lib.Dec.{ltb, leb, eqb}
 use borrow.Author.Tests.{ltb-true, ltb-false, le-ltb, lt-leb}
 use Rattle.laws.proofs.Tests.{both, alike, alike-same}
 use Rattle.packed.specs.Packed.{unpackedLength}
-use Rattle.payload_reader.specs.Payload.{accepted, numberedBy}
+use Rattle.frame_reader.specs.Payload.{accepted, numberedBy}
 use Rattle.frames.specs.Lengths.{Stretch, lengths, listed, programs7, programs6, globals, bankNames, oneName, chords, polyChords, patternAlone, patternNumbered}
 
 -- a test at every length below n

@@ -13,8 +13,8 @@ use Rattle.laws.specs.Choice.{pick}
 use Rattle.laws.specs.Tabulate.{tab}
 use Rattle.laws.proofs.Tabulate.{length-tab, getD-tab}
 use Rattle.laws.proofs.Tests.{both}
-use Rattle.data_bytes.specs.quick.Data.{dataRun}
-use Rattle.data_bytes.proofs.Runs.{run-none, by-byte}
+use Rattle.octets.specs.quick.Data.{dataRun}
+use Rattle.octets.proofs.data_bytes.Runs.{run-none, by-byte}
 use Rattle.refusal.specs.Outcome.{Outcome, gives}
 use Rattle.refusal.proofs.Given.{given-not-refused}
 use Rattle.framing.specs.declared.MaybeByte.{MaybeByte}

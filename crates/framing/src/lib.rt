@@ -1,9 +1,9 @@
 // What frames and identity messages share: F0 and F7 at the ends, and bytes below 80 between them.
 ghost use mathlib.Core.Path.{_≡_};
 ghost use lib.ListN.{getD};
-ghost use Rattle.device.specs.Device.{deviceInRange};
+ghost use Rattle.ids.specs.Device.{deviceInRange};
 ghost use Rattle.framing.specs.Framing.{framed, firstHigh, sameBytes};
-use device::DeviceId;
+use ids::DeviceId;
 
 pub const SYSEX_START: u8 = 0xF0;
 
@@ -37,11 +37,11 @@ pub fn first_high(bytes: &[u8]) -> MaybeByte
     ensures { λ r. ⌜ r ≡ firstHigh (now (bytes .entry)) ⌝ }
 {
     if LONG <= bytes.len() {
-        if data_bytes::all_data(bytes) {
+        if octets::data_bytes::all_data(bytes) {
             return MaybeByte::None;
         }
     }
-    let run = data_bytes::data_run(bytes);
+    let run = octets::data_bytes::data_run(bytes);
     if run < bytes.len() {
         let byte = bytes[run];
         return MaybeByte::Some(byte);

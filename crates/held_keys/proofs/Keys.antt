@@ -11,8 +11,8 @@ use lib.ListN.{length, getD, set, replicate}
 use lib.Seq.{getD-set-same, getD-set-other}
 use borrow.Author.Tests.{eq-eqb, ne-eqb, lt-ltb, ltb-false, eqb-true, eqb-false}
 use Rattle.laws.specs.Choice.{pick}
-use Rattle.channel_message.specs.declared.ChannelMessage.{ChannelMessage}
-use Rattle.channel_message.specs.declared.ChannelMessage.the-variants as m
+use Rattle.wire.specs.declared.channel_message.ChannelMessage.{ChannelMessage}
+use Rattle.wire.specs.declared.channel_message.ChannelMessage.the-variants as m
 use Rattle.held_keys.specs.declared.Effect.{Effect}
 use Rattle.held_keys.specs.declared.Effect.the-variants as e
 use Rattle.held_keys.specs.declared.FirstHeld.{FirstHeld}

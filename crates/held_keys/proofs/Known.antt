@@ -10,7 +10,7 @@ use lib.Pow.{shr-shr}
 use lib.Seq.{ext-getD}
 use borrow.Author.Tests.{eqb-true, eqb-false}
 use Rattle.laws.proofs.Tests.{split}
-use Rattle.channel_message.specs.declared.ChannelMessage.{ChannelMessage}
+use Rattle.wire.specs.declared.channel_message.ChannelMessage.{ChannelMessage}
 use Rattle.held_keys.specs.HeldKeys.{bit, isHeld, Afterwards}
 use Rattle.held_keys.specs.Record.{Shaped}
 

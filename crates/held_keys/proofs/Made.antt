@@ -12,8 +12,8 @@ use Rattle.laws.specs.Choice.{pick}
 use Rattle.laws.specs.Tabulate.{tab}
 use Rattle.laws.proofs.Tests.{split}
 use Rattle.laws.proofs.Tabulate.{length-tab, getD-tab}
-use Rattle.channel_message.specs.declared.ChannelMessage.{ChannelMessage}
-use Rattle.channel_message.specs.declared.ChannelMessage.the-variants as m
+use Rattle.wire.specs.declared.channel_message.ChannelMessage.{ChannelMessage}
+use Rattle.wire.specs.declared.channel_message.ChannelMessage.the-variants as m
 use Rattle.held_keys.specs.HeldKeys.{bit, isHeld, effectOf, heldAfter, stillHeld, Afterwards}
 use Rattle.held_keys.specs.Record.{Shaped, wordOf, recordOf, recordAfter}
 use Rattle.held_keys.proofs.Keys.{zero-word}

@@ -1,4 +1,4 @@
--- Every record can come from calls from fresh, so no record is unsound and 20 never arises: a note on for each held key, one after
+-- Every record can come from calls from noKeys, so no record is unsound and 20 never arises: a note on for each held key, one after
 -- another, holds just these keys, and a record is known by its held keys. Nothing is assumed but the record's shape, which every array of
 -- the record's type has. `calls-lead-here` says the same of the function `applied`: of any records that meet its contract call by call.
 use mathlib.Core.Path.{_≡_, refl, sym, subst, _∙_, ap, ap₂}
@@ -11,45 +11,45 @@ use lib.ListN.{length, getD-replicate}
 use borrow.Author.Tests.{lt-ltb, le-ltb, ltb-true, ltb-false, eq-eqb, ne-eqb, eqb-true, eqb-false}
 use Rattle.laws.specs.Choice.{pick}
 use Rattle.laws.proofs.Tests.{split}
-use Rattle.channel_message.specs.declared.ChannelMessage.the-variants as m
+use Rattle.wire.specs.declared.channel_message.ChannelMessage.the-variants as m
 use Rattle.held_keys.specs.HeldKeys.{isHeld, stillHeld, Afterwards}
-use Rattle.held_keys.specs.Record.{Shaped, Call, fresh, afterCalls}
+use Rattle.held_keys.specs.Record.{Shaped, KeyCall, noKeys, afterCalls}
 use Rattle.held_keys.proofs.Keys.{none-held}
 use Rattle.held_keys.proofs.Known.{record-known}
 use Rattle.held_keys.proofs.Made.{made-shaped, after-meets, afterwards-is}
 
 -- a note on for each held key among the first n places, counted channel by channel and key by key, latest first; 64 is one velocity of many
-abbrev pub presses : (ℕ → ℕ → Bool) → ℕ → List Call
+abbrev pub presses : (ℕ → ℕ → Bool) → ℕ → List KeyCall
 presses held zero = []
 presses held (suc j) = pick (held (j / 128) (j % 128)) ((j / 128, m.NoteOn (j % 128) 64) ∷ presses held j) (presses held j)
 
--- a record that calls lead to from the fresh record, each call's record of the record's shape and as the contract of `applied` says
-abbrev pub Reached : List Call → List (List ℕ) → Type 0
-Reached [] keys = keys ≡ fresh
+-- a record that calls lead to from the noKeys record, each call's record of the record's shape and as the contract of `applied` says
+abbrev pub Reached : List KeyCall → List (List ℕ) → Type 0
+Reached [] keys = keys ≡ noKeys
 Reached (call ∷ earlier) keys =
     (before : List (List ℕ)) × (Reached earlier before) × Shaped keys × Afterwards before (call .0) (call .1) keys
 
-fresh-shaped : Shaped fresh
+fresh-shaped : Shaped noKeys
 fresh-shaped = record {
   channels = refl;
   words = λ c h. ap (λ (row : List ℕ). length row) (getD-replicate 16 c (0 ∷ 0 ∷ []) [] h);
   bits = λ c w hc hw. rw (getD-replicate {A = List ℕ} 16 c (0 ∷ 0 ∷ []) [] hc, getD-replicate {A = ℕ} 2 w 0 0 hw) (omega arith);
 }
 
-pub calls-shaped : (calls : List Call) → Shaped (afterCalls calls)
+pub calls-shaped : (calls : List KeyCall) → Shaped (afterCalls calls)
 unfolding afterCalls
 calls-shaped [] = fresh-shaped
 calls-shaped (call ∷ earlier) = made-shaped (stillHeld (afterCalls earlier) (call .0) (call .1))
 
 -- there are such records for any calls
-pub calls-reach : (calls : List Call) → Reached calls (afterCalls calls)
+pub calls-reach : (calls : List KeyCall) → Reached calls (afterCalls calls)
 unfolding afterCalls
 calls-reach [] = refl
 calls-reach (call ∷ earlier) =
     (afterCalls earlier, calls-reach earlier, calls-shaped (call ∷ earlier), after-meets (afterCalls earlier) (calls-shaped earlier) (call .0) (call .1))
 
 -- and they are the only ones
-pub reached-is : (calls : List Call) (keys : List (List ℕ)) → Reached calls keys → keys ≡ afterCalls calls
+pub reached-is : (calls : List KeyCall) (keys : List (List ℕ)) → Reached calls keys → keys ≡ afterCalls calls
 unfolding afterCalls
 reached-is [] keys r = r
 reached-is (call ∷ earlier) keys r =
@@ -122,6 +122,6 @@ every-record-is-reached keys p =
     first-places (isHeld keys) 2048 (afterCalls (presses (isHeld keys) 2048)) (omega arith) (calls-reach (presses (isHeld keys) 2048)) c k hk
     ∙ ap (λ (t : Bool). t && isHeld keys c k) (lt-ltb (c * 128 + k) 2048 (omega arith)))
 
--- calls that meet the contract, made for a record's held keys from fresh, lead to that record
+-- calls that meet the contract, made for a record's held keys from noKeys, lead to that record
 pub calls-lead-here : (keys last : List (List ℕ)) → Shaped keys → Reached (presses (isHeld keys) 2048) last → last ≡ keys
 calls-lead-here keys last p r = reached-is (presses (isHeld keys) 2048) last r ∙ every-record-is-reached keys p

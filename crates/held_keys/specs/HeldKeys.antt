@@ -7,8 +7,8 @@ use lib.Dec.{ltb, eqb}
 use lib.ListN.{getD}
 use Rattle.laws.specs.Choice.{pick}
 use Rattle.refusal.specs.Outcome.{Outcome, gives, refusal, unless}
-use Rattle.channel_message.specs.declared.ChannelMessage.{ChannelMessage}
-use Rattle.channel_message.specs.declared.ChannelMessage.the-variants as m
+use Rattle.wire.specs.declared.channel_message.ChannelMessage.{ChannelMessage}
+use Rattle.wire.specs.declared.channel_message.ChannelMessage.the-variants as m
 use Rattle.held_keys.specs.declared.Effect.{Effect}
 use Rattle.held_keys.specs.declared.Effect.the-variants as e
 use Rattle.held_keys.specs.declared.KeyAnswer.{KeyAnswer}

@@ -6,7 +6,7 @@ use Prim.Native.Nat.{ℕ, zero, suc, _+_, _*_, _^_, _<_}
 use lib.ListN.{length, getD, replicate}
 use Rattle.laws.specs.Choice.{pick}
 use Rattle.laws.specs.Tabulate.{tab}
-use Rattle.channel_message.specs.declared.ChannelMessage.{ChannelMessage}
+use Rattle.wire.specs.declared.channel_message.ChannelMessage.{ChannelMessage}
 use Rattle.held_keys.specs.HeldKeys.{stillHeld}
 
 -- "array of sixteen arrays, two u64 each": what the array's type says of every record
@@ -16,8 +16,8 @@ pub record Shaped (keys : List (List ℕ)) : Type 0 where
   pub bits : (c w : ℕ) → c < 16 → w < 2 → getD (getD keys c []) w 0 < 2 ^ 64
 
 -- no key held
-abbrev pub fresh : List (List ℕ)
-fresh = replicate 16 (0 ∷ 0 ∷ [])
+abbrev pub noKeys : List (List ℕ)
+noKeys = replicate 16 (0 ∷ 0 ∷ [])
 
 -- the word of n bits whose bit j is set if the test says so of j
 unfoldable pub wordOf : (ℕ → Bool) → ℕ → ℕ
@@ -33,10 +33,10 @@ abbrev pub recordAfter : List (List ℕ) → ℕ → ChannelMessage → List (Li
 recordAfter keys channel message = recordOf (stillHeld keys channel message)
 
 -- a call: a channel and a message
-abbrev pub Call : Type 0
-Call = ℕ × ChannelMessage
+abbrev pub KeyCall : Type 0
+KeyCall = ℕ × ChannelMessage
 
--- the record after calls from fresh, the latest call first
-unfoldable pub afterCalls : List Call → List (List ℕ)
-afterCalls [] = fresh
+-- the record after calls from noKeys, the latest call first
+unfoldable pub afterCalls : List KeyCall → List (List ℕ)
+afterCalls [] = noKeys
 afterCalls (call ∷ earlier) = recordAfter (afterCalls earlier) (call .0) (call .1)

@@ -6,12 +6,15 @@ ghost use lib.Dec.{eqb};
 ghost use Rattle.refusal.specs.Outcome.{counted};
 ghost use Rattle.laws.specs.Choice.{pick};
 ghost use Rattle.held_keys.specs.HeldKeys.{bit, effectOf, Afterwards, Told, countOn, firstHeld};
-ghost use Rattle.held_keys.specs.Record.{fresh};
-use channel_message::ChannelMessage;
+ghost use Rattle.held_keys.specs.Record.{noKeys};
+
+pub mod bytes;
+
 use refusal::Count;
 use refusal::Refusal;
 use wire::CHANNEL_COUNT;
 use wire::Channel;
+use wire::ChannelMessage;
 
 // For each of 16 channels two words, a bit for each of 128 keys: key k is bit k % 64 of word k / 64.
 pub type HeldKeys = [[u64; 2]; 16];
@@ -35,7 +38,7 @@ pub enum FirstHeld {
 
 // A record in which no key is held.
 pub fn new() -> HeldKeys
-    ensures { λ r. ⌜ r ≡ fresh ⌝ }
+    ensures { λ r. ⌜ r ≡ noKeys ⌝ }
 {
     [[0u64; 2]; 16]
 }

@@ -5,15 +5,15 @@ use native.Mathlib.Omega.{arith}
 use lib.Dec.{ltb, leb, eqb}
 use Rattle.laws.proofs.Tests.{by-test}
 use Rattle.wire.specs.Status.{dataLength}
-use Rattle.channel_message.specs.Message.{channelMessage}
-use Rattle.system_common.specs.Common.{commonMessage}
-use Rattle.real_time.specs.Realtime.{realtimeOf}
-use Rattle.channel_message.specs.declared.MaybeChannelMessage.{MaybeChannelMessage}
-use Rattle.channel_message.specs.declared.MaybeChannelMessage.the-variants as c
-use Rattle.system_common.specs.declared.MaybeSystemCommon.{MaybeSystemCommon}
-use Rattle.system_common.specs.declared.MaybeSystemCommon.the-variants as g
-use Rattle.real_time.specs.declared.MaybeRealtime.{MaybeRealtime}
-use Rattle.real_time.specs.declared.MaybeRealtime.the-variants as t
+use Rattle.wire.specs.ChannelMessage.{channelMessage}
+use Rattle.wire.specs.SystemCommon.{commonMessage}
+use Rattle.wire.specs.RealTime.{realtimeOf}
+use Rattle.wire.specs.declared.channel_message.MaybeChannelMessage.{MaybeChannelMessage}
+use Rattle.wire.specs.declared.channel_message.MaybeChannelMessage.the-variants as c
+use Rattle.wire.specs.declared.system_common.MaybeSystemCommon.{MaybeSystemCommon}
+use Rattle.wire.specs.declared.system_common.MaybeSystemCommon.the-variants as g
+use Rattle.wire.specs.declared.real_time.MaybeRealtime.{MaybeRealtime}
+use Rattle.wire.specs.declared.real_time.MaybeRealtime.the-variants as t
 use Rattle.decoder.specs.declared.RunningStatus.{RunningStatus}
 use Rattle.decoder.specs.declared.RunningStatus.the-variants as s
 use Rattle.decoder.specs.declared.Decoder.{Decoder}

@@ -6,12 +6,12 @@ use Prim.Native.Nat.{ℕ, _+_, _*_, _%_, _<_}
 use native.Mathlib.Omega.{arith}
 use Rattle.refusal.specs.Outcome.{gives}
 use Rattle.wire.specs.declared.Channel.{Channel}
-use Rattle.channel_message.specs.declared.ChannelMessage.{ChannelMessage}
-use Rattle.channel_message.specs.declared.ChannelMessage.the-variants as x
-use Rattle.system_common.specs.declared.SystemCommon.the-variants as y
-use Rattle.real_time.specs.declared.Realtime.{Realtime}
-use Rattle.real_time.specs.declared.Realtime.the-variants as t
-use Rattle.read_back.proofs.ReadBack.{kind}
+use Rattle.wire.specs.declared.channel_message.ChannelMessage.{ChannelMessage}
+use Rattle.wire.specs.declared.channel_message.ChannelMessage.the-variants as x
+use Rattle.wire.specs.declared.system_common.SystemCommon.the-variants as y
+use Rattle.wire.specs.declared.real_time.Realtime.{Realtime}
+use Rattle.wire.specs.declared.real_time.Realtime.the-variants as t
+use Rattle.wire.proofs.ReadBack.{kind}
 use Rattle.decoder.specs.declared.Report.{Report}
 use Rattle.decoder.specs.declared.Report.the-variants as r
 use Rattle.decoder.specs.declared.MaybeReport.{MaybeReport}

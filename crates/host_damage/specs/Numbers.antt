@@ -6,12 +6,12 @@ use lib.Dec.{eqb}
 use lib.ListN.{take}
 use Rattle.laws.specs.Choice.{pick}
 use Rattle.refusal.specs.Outcome.{Outcome, gives, refused}
-use Rattle.channel_message.specs.declared.ChannelMessage.{ChannelMessage}
-use Rattle.channel_message.specs.declared.ChannelMessage.the-variants as m
-use Rattle.system_common.specs.declared.SystemCommon.the-variants as y
-use Rattle.real_time.specs.declared.MaybeRealtime.{MaybeRealtime}
-use Rattle.real_time.specs.declared.MaybeRealtime.the-variants as t
-use Rattle.real_time.specs.Realtime.{realtimeOf}
+use Rattle.wire.specs.declared.channel_message.ChannelMessage.{ChannelMessage}
+use Rattle.wire.specs.declared.channel_message.ChannelMessage.the-variants as m
+use Rattle.wire.specs.declared.system_common.SystemCommon.the-variants as y
+use Rattle.wire.specs.declared.real_time.MaybeRealtime.{MaybeRealtime}
+use Rattle.wire.specs.declared.real_time.MaybeRealtime.the-variants as t
+use Rattle.wire.specs.RealTime.{realtimeOf}
 use Rattle.decoder.specs.Reports.{channel, common, realtime, frame}
 use Rattle.damage.specs.Reported.{Reported, report18}
 use Rattle.stream.specs.declared.FedAnswer.{FedAnswer}

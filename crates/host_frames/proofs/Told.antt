@@ -11,7 +11,7 @@ use Rattle.frame_reader.specs.declared.Located.{Located}
 use Rattle.frame_reader.specs.Reader.{readRecord, withPlace, readLocated, placeIn}
 use Rattle.frame_reader.proofs.RunPlace.{with-place}
 use Rattle.host_frames.specs.declared.ReadAnswer.{ReadAnswer}
-use Rattle.host_frames.specs.Frames.{numbersOf, readAnswer}
+use Rattle.host_frames.specs.Frames.{frameNumbers, readAnswer}
 
 pub read-refused : (bytes : List ℕ) (e : Refusal) (a : ReadAnswer) → refusal e ≡ readLocated bytes → a ≡ readAnswer (refusal e) []
     → a ≡ readAnswer (readRecord bytes) bytes
@@ -25,9 +25,9 @@ read-refused bytes e a h k = go (readRecord bytes) refl h
         rw (i, ← number, ← values) k
 
 pub read-told : (bytes : List ℕ) (x : Located) (a : ReadAnswer) → gives x ≡ readLocated bytes
-    → a ≡ numbersOf (x .frame .device) (x .frame .command) (x .frame .fields) (x .run .start) (x .run .len) → a ≡ readAnswer (readRecord bytes) bytes
+    → a ≡ frameNumbers (x .frame .device) (x .frame .command) (x .frame .fields) (x .run .start) (x .run .len) → a ≡ readAnswer (readRecord bytes) bytes
 read-told bytes x a h k =
     let p = with-place bytes x h in
     let r = x .frame in
-    k ∙ ap (λ (s : ℕ). numbersOf (r .device) (r .command) (r .fields) s (x .run .len)) (p .starts)
-    ∙ ap (λ (n : ℕ). numbersOf (r .device) (r .command) (r .fields) (placeIn r) n) (p .long) ∙ ap (λ o. readAnswer o bytes) (p .found)
+    k ∙ ap (λ (s : ℕ). frameNumbers (r .device) (r .command) (r .fields) s (x .run .len)) (p .starts)
+    ∙ ap (λ (n : ℕ). frameNumbers (r .device) (r .command) (r .fields) (placeIn r) n) (p .long) ∙ ap (λ o. readAnswer o bytes) (p .found)

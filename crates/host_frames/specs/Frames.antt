@@ -3,19 +3,19 @@ use mathlib.Core.List.{List}
 use Prim.Native.Nat.{ℕ}
 use lib.ListN.{length, getD}
 use Rattle.refusal.specs.Outcome.{Outcome, gives, refused}
-use Rattle.device.specs.declared.DeviceId.{DeviceId}
+use Rattle.ids.specs.declared.device.DeviceId.{DeviceId}
 use Rattle.command.specs.declared.Command.{Command}
 use Rattle.command.specs.Command.{codeOf}
-use Rattle.fields.specs.declared.Fields.{Fields}
+use Rattle.message.specs.declared.fields.Fields.{Fields}
 use Rattle.frame_reader.specs.declared.Record.{Record}
 use Rattle.frame_reader.specs.Reader.{runIn, placeIn}
-use Rattle.boundary.specs.Answer.{flag}
-use Rattle.boundary.specs.Device.{everyoneOf, unitOf}
+use Rattle.laws.specs.Choice.{flag}
+use Rattle.host_answer.specs.Device.{everyoneOf, unitOf}
 use Rattle.host_frames.specs.declared.ReadAnswer.{ReadAnswer}
 
 -- "a record of plain fields beside the caller's packed run": the record and the run's place
-abbrev pub numbersOf : DeviceId → Command → Fields → ℕ → ℕ → ReadAnswer
-numbersOf d k f start len =
+abbrev pub frameNumbers : DeviceId → Command → Fields → ℕ → ℕ → ReadAnswer
+frameNumbers d k f start len =
     record {
       number = 0;
       detail0 = 0;
@@ -41,7 +41,7 @@ numbersOf d k f start len =
 
 -- read: the numbers. Refused: document 01's number and details, and 0 behind them
 abbrev pub readAnswer : Outcome Record → List ℕ → ReadAnswer
-readAnswer (gives r) bytes = numbersOf (r .device) (r .command) (r .fields) (placeIn r) (length (runIn r bytes))
+readAnswer (gives r) bytes = frameNumbers (r .device) (r .command) (r .fields) (placeIn r) (length (runIn r bytes))
 readAnswer (refused n values) bytes =
     record {
       number = n;

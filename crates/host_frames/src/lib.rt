@@ -1,11 +1,24 @@
-// The C entry point that reads frames.
-ghost use mathlib.Core.Path.{_≡_};
-ghost use mathlib.Core.List.{[]};
-ghost use Rattle.refusal.specs.Outcome.{refusal};
+// The C entry points of frames: read, measured and written.
 ghost use Rattle.frame_reader.specs.Reader.{readRecord};
-ghost use Rattle.host_frames.specs.Frames.{numbersOf, readAnswer};
+ghost use Rattle.frame_writer.specs.Writer.{recordWrite};
+ghost use Rattle.host_answer.specs.Answer.{answerOf, noRecord, SendsIf};
+ghost use Rattle.host_answer.specs.Device.{deviceFrom};
+ghost use Rattle.host_frames.specs.Frames.{frameNumbers, readAnswer};
+ghost use Rattle.host_frames.specs.Sent.{fieldsFrom, lengthAsked};
+ghost use Rattle.laws.specs.Choice.{pick};
+ghost use Rattle.refusal.specs.Outcome.{refusal};
+ghost use lib.Dec.{leb};
+ghost use lib.ListN.{length};
+ghost use mathlib.Core.Bool.{_&&_};
+ghost use mathlib.Core.List.{[]};
+ghost use mathlib.Core.Path.{_≡_};
+use command::Command;
+use command::CommandAnswer;
 use frame_reader::Located;
 use frame_reader::LocatedAnswer;
+use host_answer::Answer;
+use message::Fields;
+use message::Head;
 use refusal::Refusal;
 
 // What a frame says. number: 0 where it is read, else document 01's number with its details, and 0 behind them. everyone: 1 for device byte 7F, and
@@ -36,7 +49,7 @@ pub struct ReadAnswer {
 
 // The numbers of a frame that was read.
 fn numbers(read: Located) -> ReadAnswer
-    ensures { λ r. ⌜ r ≡ numbersOf (read .frame .device) (read .frame .command) (read .frame .fields) (read .run .start) (read .run .len) ⌝ }
+    ensures { λ r. ⌜ r ≡ frameNumbers (read .frame .device) (read .frame .command) (read .frame .fields) (read .run .start) (read .run .len) ⌝ }
 {
     let frame = read.frame;
     let run = read.run;
@@ -49,8 +62,8 @@ fn numbers(read: Located) -> ReadAnswer
         detail1: 0,
         detail2: 0,
         detail3: 0,
-        everyone: boundary::everyone_of(device),
-        unit: boundary::unit_of(device),
+        everyone: host_answer::everyone_of(device),
+        unit: host_answer::unit_of(device),
         command: command.to_byte() as u64,
         free: fields.free as u64,
         version: fields.version as u64,
@@ -58,7 +71,7 @@ fn numbers(read: Located) -> ReadAnswer
         program: fields.program as u64,
         last: fields.last as u64,
         pattern: fields.pattern as u64,
-        has_pattern: boundary::flag_of(fields.has_pattern) as u64,
+        has_pattern: octets::flag_of(fields.has_pattern) as u64,
         interface: fields.interface as u64,
         rx: fields.rx as u64,
         tx: fields.tx as u64,
@@ -71,7 +84,7 @@ fn numbers(read: Located) -> ReadAnswer
 fn not_read(e: Refusal) -> ReadAnswer
     ensures { λ r. ⌜ r ≡ readAnswer (refusal e) [] ⌝ }
 {
-    let why = boundary::refused(e);
+    let why = host_answer::refused(e);
     ReadAnswer {
         number: why.number,
         detail0: why.detail0,
@@ -105,4 +118,77 @@ pub extern "C" fn dm_frame_read(bytes: &[u8]) -> ReadAnswer
         LocatedAnswer::Err(e) => not_read(e),
         LocatedAnswer::Ok(read) => numbers(read),
     }
+}
+
+// How many bytes a message of this command takes beside a run of so many; has_pattern says whether a pattern dump names its pattern. It looks
+// at no other field. NO_RECORD for has_pattern above 1; then refuses 6, 22.
+#[no_mangle]
+pub extern "C" fn dm_frame_len(command: u8, has_pattern: u8, run_len: usize) -> Answer
+    ensures { λ r. ⌜ r ≡ pick (leb «has_pattern» 1) (answerOf (lengthAsked command «has_pattern» «run_len»)) noRecord ⌝ }
+{
+    if 1 < has_pattern {
+        return host_answer::no_record();
+    }
+    match Command::from_byte(command) {
+        CommandAnswer::Err(e) => host_answer::refused(e),
+        CommandAnswer::Ok(known) => {
+            let blank = Fields {
+                free: 0,
+                version: 0,
+                bank: 0,
+                program: 0,
+                last: 0,
+                pattern: 0,
+                has_pattern: has_pattern == 1,
+                interface: 0,
+                rx: 0,
+                tx: 0,
+            };
+            host_answer::count(frame_writer::encoded_len(Head::from_tested(known, blank), run_len))
+        }
+    }
+}
+
+// Writes a frame. NO_RECORD for everyone or has_pattern above 1; then refuses 5, 6, the fields that the command has in wire order (8, 12, 9, 10, 11),
+// 22, 14, 2. It looks at no run length.
+#[no_mangle]
+pub extern "C" fn dm_frame_write(
+    everyone: u8,
+    unit: u8,
+    command: u8,
+    free: u8,
+    version: u8,
+    bank: u8,
+    program: u8,
+    last: u8,
+    pattern: u8,
+    has_pattern: u8,
+    interface: u8,
+    rx: u8,
+    tx: u8,
+    run: &[u8],
+    out: &mut [u8],
+) -> Answer
+    ensures { λ r. ⌜ SendsIf (leb everyone 1 && leb «has_pattern» 1) (recordWrite (deviceFrom everyone unit) command (fieldsFrom free version bank program last pattern «has_pattern» interface rx tx) (now (run .entry)) (length (now (out .entry)))) r (now (out .entry)) (now (out .exit)) ⌝ }
+{
+    if 1 < everyone {
+        return host_answer::no_record();
+    }
+    if 1 < has_pattern {
+        return host_answer::no_record();
+    }
+    let device = host_answer::device_of(everyone, unit);
+    let fields = Fields {
+        free,
+        version,
+        bank,
+        program,
+        last,
+        pattern,
+        has_pattern: has_pattern == 1,
+        interface,
+        rx,
+        tx,
+    };
+    host_answer::count(frame_writer::write_record(device, command, fields, run, out))
 }

@@ -8,8 +8,8 @@ use borrow.Author.Tests.{eq-eqb, ne-eqb}
 use Rattle.decoder.specs.declared.Decoder.{Decoder}
 use Rattle.refusal.specs.declared.Refusal.the-variants.{BadStore}
 use Rattle.refusal.specs.Outcome.{gives, refusal}
-use Rattle.boundary.specs.declared.Answer.{Answer}
-use Rattle.boundary.specs.Answer.{answerOf, Sends}
+use Rattle.host_answer.specs.declared.Answer.{Answer}
+use Rattle.host_answer.specs.Answer.{answerOf, Sends}
 use Rattle.stream.specs.State.{encoded}
 use Rattle.host_stream.specs.Kept.{stateWrite}
 

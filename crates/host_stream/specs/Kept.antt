@@ -6,7 +6,7 @@ use lib.ListN.{length}
 use Rattle.refusal.specs.Outcome.{Outcome, gives, unless}
 use Rattle.decoder.specs.declared.Decoder.{Decoder}
 use Rattle.decoder.specs.State.{reset}
-use Rattle.boundary.specs.Answer.{flag}
+use Rattle.laws.specs.Choice.{flag}
 use Rattle.stream.specs.State.{isState, stateOf, encoded}
 
 -- a state that is written to the lent bytes; 20 where they are not fourteen

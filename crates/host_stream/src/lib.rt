@@ -2,11 +2,11 @@
 // lends at every call.
 ghost use mathlib.Core.Path.{_≡_};
 ghost use Rattle.decoder.specs.State.{limit, fresh};
-ghost use Rattle.boundary.specs.Answer.{answerOf, Sends};
+ghost use Rattle.host_answer.specs.Answer.{answerOf, Sends};
 ghost use Rattle.stream.specs.Feed.{feedCall, StreamFed};
 ghost use Rattle.host_stream.specs.Kept.{stateWrite, resetWrite, openOf};
-use boundary::Answer;
 use decoder::Decoder;
+use host_answer::Answer;
 use refusal::Refusal;
 use stream::FedAnswer;
 use stream::STATE_LEN;
@@ -35,10 +35,10 @@ pub extern "C" fn dm_fresh(state: &mut [u8]) -> Answer
     ensures { λ r. ⌜ Sends (stateWrite fresh (now (state .entry))) r (now (state .entry)) (now (state .exit)) ⌝ }
 {
     if state.len() != STATE_LEN {
-        return boundary::refused(Refusal::BadStore);
+        return host_answer::refused(Refusal::BadStore);
     }
     state::put_state(Decoder::new(), state);
-    boundary::done(STATE_LEN as u64)
+    host_answer::done(STATE_LEN as u64)
 }
 
 // Closes the frame and clears status and pending data, whatever the bytes hold. Refuses 20 for any other length than STATE_LEN.
@@ -47,11 +47,11 @@ pub extern "C" fn dm_reset(state: &mut [u8]) -> Answer
     ensures { λ r. ⌜ Sends (resetWrite (now (state .entry))) r (now (state .entry)) (now (state .exit)) ⌝ }
 {
     if state.len() != STATE_LEN {
-        return boundary::refused(Refusal::BadStore);
+        return host_answer::refused(Refusal::BadStore);
     }
     let d = state::state_of(state);
     state::put_state(d.reset(), state);
-    boundary::done(STATE_LEN as u64)
+    host_answer::done(STATE_LEN as u64)
 }
 
 // 1 while a frame is open, else 0. Refuses 20 for bytes that are no state.
@@ -60,8 +60,8 @@ pub extern "C" fn dm_in_sysex(state: &[u8]) -> Answer
     ensures { λ r. ⌜ r ≡ answerOf (openOf (now (state .entry))) ⌝ }
 {
     if !state::is_state(state) {
-        return boundary::refused(Refusal::BadStore);
+        return host_answer::refused(Refusal::BadStore);
     }
     let d = state::state_of(state);
-    boundary::done(boundary::flag_of(d.in_sysex()) as u64)
+    host_answer::done(octets::flag_of(d.in_sysex()) as u64)
 }

@@ -8,10 +8,10 @@ use lib.Dec.{ltb}
 use borrow.Author.Tests.{ltb-true}
 use Rattle.refusal.specs.Outcome.{gives, unless}
 use Rattle.refusal.proofs.Given.{passed, passed-on}
-use Rattle.ids.specs.declared.Bank.{Bank}
-use Rattle.ids.specs.declared.ProgramNumber.{ProgramNumber}
-use Rattle.ids.specs.declared.PatternNumber.{PatternNumber}
-use Rattle.ids.specs.Small.{bankOf, programOf, patternOf}
+use Rattle.ids.specs.declared.bank.Bank.{Bank}
+use Rattle.ids.specs.declared.program.ProgramNumber.{ProgramNumber}
+use Rattle.ids.specs.declared.pattern.PatternNumber.{PatternNumber}
+use Rattle.ids.specs.Numbers.{bankOf, programOf, patternOf}
 
 -- said once: a byte that passed a test and was wrapped
 module _ {A : Type 0} (wrap : ℕ → A) (inside : A → ℕ) (unwrap : (k : ℕ) → inside (wrap k) ≡ k) (test : ℕ → Bool) (number : ℕ) where

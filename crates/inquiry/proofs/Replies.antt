@@ -12,12 +12,12 @@ use borrow.Author.Tests.{eqb-true}
 use Rattle.laws.proofs.Tests.{both}
 use Rattle.refusal.specs.Outcome.{gives, unless, andThen}
 use Rattle.refusal.proofs.Given.{passed, passed-on, given-first}
-use Rattle.device.specs.declared.DeviceId.{DeviceId}
-use Rattle.device.specs.Device.{deviceOf}
+use Rattle.ids.specs.declared.device.DeviceId.{DeviceId}
+use Rattle.ids.specs.Device.{deviceOf}
 use Rattle.framing.specs.Framing.{framed, sameBytes}
 use Rattle.framing.proofs.Bytes.{same-is, spelled}
-use Rattle.identity.specs.declared.Identity.{Identity}
-use Rattle.inquiry_reply.specs.Reply.{isReply, identityAt, readReply}
+use Rattle.inquiry.specs.declared.identity.Identity.{Identity}
+use Rattle.inquiry.specs.Reply.{isReply, identityAt, readReply}
 
 -- "F0 7E device 06 02 00 20 32 20 00 01 00, firmware, one free byte, two voice bytes, F7"
 abbrev pub replyRow : ℕ → ℕ → ℕ → ℕ → ℕ → List ℕ

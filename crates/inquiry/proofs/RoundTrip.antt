@@ -12,16 +12,16 @@ use borrow.Author.Tests.{eqb-true}
 use Rattle.laws.proofs.Tests.{both}
 use Rattle.refusal.specs.Outcome.{gives, unless}
 use Rattle.refusal.proofs.Given.{passed, passed-on}
-use Rattle.device.specs.declared.DeviceId.{DeviceId}
-use Rattle.device.specs.Device.{deviceOf, deviceInRange}
-use Rattle.device.proofs.Range.{device-in-range, device-reads-back}
+use Rattle.ids.specs.declared.device.DeviceId.{DeviceId}
+use Rattle.ids.specs.Device.{deviceOf, deviceInRange}
+use Rattle.ids.proofs.device.Range.{device-in-range, device-reads-back}
 use Rattle.framing.specs.Framing.{framed, sameBytes}
 use Rattle.framing.proofs.Bytes.{same-is, spelled}
-use Rattle.identity.specs.declared.Version.{Version}
-use Rattle.identity.specs.declared.Identity.{Identity}
-use Rattle.identity.specs.Version.{packedOf}
-use Rattle.inquiry_request.specs.Request.{isRequest, readRequest, requestBytes}
-use Rattle.inquiry_reply.specs.Reply.{readReply, replyBytes}
+use Rattle.inquiry.specs.declared.identity.Version.{Version}
+use Rattle.inquiry.specs.declared.identity.Identity.{Identity}
+use Rattle.inquiry.specs.Identity.{packedOf}
+use Rattle.inquiry.specs.Request.{isRequest, readRequest, requestBytes}
+use Rattle.inquiry.specs.Reply.{readReply, replyBytes}
 
 -- a request that is written reads back as its device
 pub request-reads-back : (d : DeviceId) → deviceInRange d ≡ true → readRequest (requestBytes d) ≡ gives d

@@ -2,7 +2,7 @@
 use mathlib.Core.Path.{_≡_, refl}
 use mathlib.Core.Bool.{true, false}
 use Rattle.laws.specs.Choice.{pick}
-use Rattle.payload.specs.Wire.{carriesRun}
+use Rattle.message.specs.Prefix.{carriesRun}
 use Rattle.message.specs.declared.head.MaybePattern.the-variants as p
 use Rattle.message.specs.declared.head.MaybeVersion.the-variants as v
 use Rattle.message.specs.declared.head.Head.{Head}

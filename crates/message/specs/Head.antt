@@ -3,12 +3,12 @@ use mathlib.Core.Bool.{Bool, true, false}
 use mathlib.Core.List.{[], _∷_}
 use Prim.Native.Nat.{ℕ}
 use Rattle.refusal.specs.Outcome.{Outcome, gives, refusal, unless, andThen}
-use Rattle.device.specs.declared.DeviceId.{DeviceId}
-use Rattle.device.specs.Device.{deviceByte, deviceInRange}
+use Rattle.ids.specs.declared.device.DeviceId.{DeviceId}
+use Rattle.ids.specs.Device.{deviceByte, deviceInRange}
 use Rattle.command.specs.declared.Command.{Command}
 use Rattle.command.specs.declared.Command.the-variants as k
 use Rattle.command.specs.Command.{commandOf}
-use Rattle.fields.specs.declared.Fields.{Fields}
+use Rattle.message.specs.declared.fields.Fields.{Fields}
 use Rattle.message.specs.declared.head.MaybePattern.{MaybePattern}
 use Rattle.message.specs.declared.head.MaybePattern.the-variants as p
 use Rattle.message.specs.declared.head.MaybeVersion.{MaybeVersion}
@@ -18,9 +18,9 @@ use Rattle.message.specs.declared.head.Head.the-variants as h
 use Rattle.message.specs.declared.head.Frame.{Frame}
 use Rattle.message.specs.declared.head.FrameAnswer.{FrameAnswer}
 use Rattle.message.specs.declared.head.FrameAnswer.the-variants as ra
-use Rattle.interface.specs.Interface.{interfaceAt, interfaceByte}
-use Rattle.fields.specs.Fields.{freeFields, requestFields, dumpFields, patternFields, notifyFields}
-use Rattle.payload.specs.Wire.{checkedFields}
+use Rattle.ids.specs.Interface.{interfaceAt, interfaceByte}
+use Rattle.message.specs.Fields.{freeFields, requestFields, dumpFields, patternFields, notifyFields}
+use Rattle.message.specs.Prefix.{checkedFields}
 
 -- a pattern's number where there is one
 abbrev pub patternAt : Bool → ℕ → MaybePattern

@@ -1,23 +1,23 @@
 // The 22 messages, as records with the types of their fields.
 ghost use mathlib.Core.Path.{_≡_};
 ghost use Rattle.message.specs.Head.{patternAt, commandOfHead, fieldsOf, headFrom, versionOfHead, recordFrame, frameTold};
+use crate::fields::Fields;
+use crate::fields::dump_fields;
+use crate::fields::free_fields;
+use crate::fields::notify_fields;
+use crate::fields::pattern_fields;
+use crate::fields::request_fields;
+use crate::prefix::FieldsAnswer;
+use crate::prefix::carries_run;
+use crate::prefix::check;
 use command::Command;
 use command::CommandAnswer;
-use device::DeviceId;
-use fields::Fields;
-use fields::dump_fields;
-use fields::free_fields;
-use fields::notify_fields;
-use fields::pattern_fields;
-use fields::request_fields;
 use ids::Bank;
+use ids::DeviceId;
+use ids::Interface;
 use ids::PatternNumber;
 use ids::ProgramNumber;
-use interface::Interface;
-use payload::FieldsAnswer;
-use payload::carries_run;
-use payload::check;
-use protocol::ProtocolVersion;
+use ids::ProtocolVersion;
 use refusal::Refusal;
 
 // The number of a stored pattern; the one being edited has none.
@@ -268,7 +268,7 @@ impl Head {
     }
 
     // The message of a command and its fields, which were tested before; a field that the command lacks is passed over.
-    pub fn tested(command: Command, fields: Fields) -> Head
+    pub fn from_tested(command: Command, fields: Fields) -> Head
         ensures { λ r. ⌜ r ≡ headFrom command fields ⌝ }
     {
         match command {
@@ -323,7 +323,7 @@ impl Head {
             Command::ControlAppNotifyResponse => Head::ControlAppNotifyResponse {
                 rx_channel: fields.rx,
                 tx_channel: fields.tx,
-                interface: Interface::tested(fields.interface),
+                interface: Interface::from_tested(fields.interface),
                 bank: Bank(fields.bank),
                 program: ProgramNumber(fields.program),
             },
@@ -375,7 +375,7 @@ pub fn from_record(device: DeviceId, command: u8, fields: Fields) -> FrameAnswer
             FieldsAnswer::Err(e) => FrameAnswer::Err(e),
             FieldsAnswer::Ok(own) => FrameAnswer::Ok(Frame {
                 device,
-                head: Head::tested(known, own),
+                head: Head::from_tested(known, own),
             }),
         },
     }

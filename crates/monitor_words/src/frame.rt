@@ -1,11 +1,11 @@
 // Frames, identity requests and replies, and why a frame is refused.
 use crate::then;
-use device::DeviceAnswer;
-use device::DeviceId;
-use fields::Fields;
-use identity::Identity;
-use identity::Version;
-use inquiry_reply::IdentityAnswer;
+use ids::DeviceAnswer;
+use ids::DeviceId;
+use inquiry::Identity;
+use inquiry::IdentityAnswer;
+use inquiry::Version;
+use message::Fields;
 use message::Frame;
 use message::FrameAnswer;
 use refusal::Refusal;
@@ -15,8 +15,8 @@ fn put_refusal(out: &mut [u8], at: usize, refusal: Refusal) -> usize {
     let number = refusal.number();
     let a = then(out, at, b"refused: ", number as u64);
     let b = text::put(out, a, 32);
-    let d = refusal_text::put_word(out, b, number);
-    refusal_text::details(out, d, refusal)
+    let d = text::refusals::put_word(out, b, number);
+    text::refusals::details(out, d, refusal)
 }
 
 fn put_device(out: &mut [u8], at: usize, device: DeviceId) -> usize {
@@ -124,7 +124,7 @@ fn put_identity(out: &mut [u8], at: usize, identity: Identity) -> usize {
 }
 
 fn put_reply(out: &mut [u8], at: usize, bytes: &[u8]) -> usize {
-    match inquiry_reply::parse_reply(bytes) {
+    match inquiry::reply::parse_reply(bytes) {
         IdentityAnswer::Ok(identity) => put_identity(out, at, identity),
         IdentityAnswer::Err(e) => put_refusal(out, at, e),
     }
@@ -137,7 +137,7 @@ fn put_request(out: &mut [u8], at: usize, device: DeviceId) -> usize {
 
 // A universal message: an identity request, or else it has to be a reply.
 fn put_universal(out: &mut [u8], at: usize, bytes: &[u8]) -> usize {
-    match inquiry_request::parse_request(bytes) {
+    match inquiry::request::parse_request(bytes) {
         DeviceAnswer::Ok(device) => put_request(out, at, device),
         DeviceAnswer::Err(e) => {
             if e.number() == 15 {
@@ -150,7 +150,7 @@ fn put_universal(out: &mut [u8], at: usize, bytes: &[u8]) -> usize {
 
 // What a frame says, as the frame reader and the inquiry's readers have it.
 pub fn put_words(out: &mut [u8], at: usize, bytes: &[u8]) -> usize {
-    if framing::byte_at(bytes, 1) == identity::NON_REALTIME {
+    if framing::byte_at(bytes, 1) == inquiry::identity::NON_REALTIME {
         return put_universal(out, at, bytes);
     }
     match frame_reader::parse(bytes) {

@@ -2,8 +2,8 @@
 use crate::then;
 use framing::byte_at;
 use refusal::Count;
-use system_common::CommonStatus;
-use system_common::SystemCommon;
+use wire::CommonStatus;
+use wire::SystemCommon;
 
 // How many bytes a writer wrote.
 pub fn written(count: Count) -> usize {

@@ -2,6 +2,10 @@
 ghost use mathlib.Core.Path.{_≡_};
 ghost use Rattle.refusal.specs.Outcome.{counted};
 ghost use Rattle.packed.specs.Packed.{packedLengthOf, unpackedLengthOf};
+
+pub mod packing;
+pub mod unpacking;
+
 use refusal::Count;
 use refusal::Refusal;
 

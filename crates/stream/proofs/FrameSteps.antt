@@ -8,9 +8,9 @@ use lib.Dec.{ltb}
 use lib.ListN.{set}
 use borrow.Author.Tests.{ltb-true, ltb-false}
 use Rattle.laws.proofs.Tests.{split}
-use Rattle.byte_words.specs.quick.Words.{putWord}
-use Rattle.real_time.specs.Realtime.{realtimeOf}
-use Rattle.system_common.specs.declared.SystemCommon.the-variants as y
+use Rattle.octets.specs.quick.Words.{putWord}
+use Rattle.wire.specs.RealTime.{realtimeOf}
+use Rattle.wire.specs.declared.system_common.SystemCommon.the-variants as y
 use Rattle.decoder.specs.declared.Decoder.{Decoder}
 use Rattle.decoder.specs.declared.Class.{Class}
 use Rattle.decoder.specs.declared.Class.the-variants as k

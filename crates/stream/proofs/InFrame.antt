@@ -9,8 +9,8 @@ use lib.ListN.{length, take, drop, getD, length-drop}
 use lib.Seq.{getD-drop, length-take-le}
 use Rattle.laws.specs.Window.{window}
 use Rattle.laws.proofs.Window.{length-window}
-use Rattle.data_bytes.specs.quick.Data.{dataRun}
-use Rattle.data_bytes.proofs.Runs.{run-within, run-more}
+use Rattle.octets.specs.quick.Data.{dataRun}
+use Rattle.octets.proofs.data_bytes.Runs.{run-within, run-more}
 use Rattle.decoder.specs.declared.Decoder.{Decoder}
 use Rattle.decoder.specs.declared.Class.the-variants as k
 use Rattle.decoder.specs.declared.MaybeReport.the-variants as o

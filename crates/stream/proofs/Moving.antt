@@ -9,11 +9,11 @@ use lib.ListN.{length, take, drop, getD, set, length-take, length-drop}
 use lib.Seq.{getD-drop, take-suc, take-add, drop-drop, length-take-le}
 use Rattle.laws.specs.Window.{window}
 use Rattle.laws.proofs.Window.{window-none, window-more, window-after, length-window}
-use Rattle.byte_words.specs.quick.Words.{wordAt, putWord}
-use Rattle.byte_words.proofs.Words.{word-stored}
-use Rattle.data_bytes.specs.quick.Data.{dataRun, topBitsAt}
-use Rattle.data_bytes.proofs.Runs.{run-within, run-more, run-ends, run-drop}
-use Rattle.data_bytes.proofs.Words.{word-more}
+use Rattle.octets.specs.quick.Words.{wordAt, putWord}
+use Rattle.octets.proofs.words.Words.{word-stored}
+use Rattle.octets.specs.quick.Data.{dataRun, topBitsAt}
+use Rattle.octets.proofs.data_bytes.Runs.{run-within, run-more, run-ends, run-drop}
+use Rattle.octets.proofs.data_bytes.Words.{word-more}
 use Rattle.decoder.specs.State.{limit}
 use Rattle.stream.specs.quick.Going.{MovedTo, RunMoved, Skipped}
 

@@ -10,8 +10,8 @@ use native.Mathlib.Nat.{add-zero}
 use lib.ListN.{length, take, drop, getD, length-drop, drop-of-length-le}
 use lib.Seq.{drop-cons, drop-drop}
 use Rattle.laws.specs.Window.{window}
-use Rattle.data_bytes.specs.quick.Data.{dataRun}
-use Rattle.data_bytes.proofs.Runs.{run-within}
+use Rattle.octets.specs.quick.Data.{dataRun}
+use Rattle.octets.proofs.data_bytes.Runs.{run-within}
 use Rattle.decoder.specs.declared.RunningStatus.the-variants as s
 use Rattle.decoder.specs.declared.Decoder.{Decoder}
 use Rattle.decoder.specs.declared.MaybeReport.the-variants as o

@@ -10,7 +10,7 @@ use borrow.Author.Tests.{eq-eqb, ne-eqb, eqb-true, eqb-false, leb-true, leb-fals
 use Rattle.laws.specs.Choice.{pick}
 use Rattle.laws.proofs.Tests.{split, both}
 use Rattle.wire.specs.Status.{dataLength}
-use Rattle.system_common.specs.declared.SystemCommon.the-variants as y
+use Rattle.wire.specs.declared.system_common.SystemCommon.the-variants as y
 use Rattle.decoder.specs.declared.RunningStatus.the-variants as s
 use Rattle.decoder.specs.declared.Decoder.{Decoder}
 use Rattle.decoder.specs.declared.Class.the-variants as k

@@ -9,10 +9,10 @@ use lib.ListN.{length, drop, getD, set, length-set}
 use borrow.Author.Tests.{eq-eqb, eqb-true, ltb-true}
 use Rattle.laws.specs.Choice.{pick}
 use Rattle.laws.proofs.Tests.{split, both, true-is-not-false}
-use Rattle.byte_words.specs.quick.Words.{putWord}
+use Rattle.octets.specs.quick.Words.{putWord}
 use Rattle.wire.specs.Status.{dataLength}
-use Rattle.real_time.specs.Realtime.{realtimeOf}
-use Rattle.system_common.specs.declared.SystemCommon.the-variants as y
+use Rattle.wire.specs.RealTime.{realtimeOf}
+use Rattle.wire.specs.declared.system_common.SystemCommon.the-variants as y
 use Rattle.decoder.specs.declared.RunningStatus.{RunningStatus}
 use Rattle.decoder.specs.declared.RunningStatus.the-variants as s
 use Rattle.decoder.specs.declared.Decoder.{Decoder}

@@ -9,8 +9,8 @@ use native.Mathlib.Omega.{arith}
 use lib.ListN.{length, take, drop, set, length-take, length-set}
 use Rattle.laws.specs.Window.{window}
 use Rattle.laws.proofs.Window.{window-none, window-more, window-after}
-use Rattle.data_bytes.specs.quick.Data.{dataRun}
-use Rattle.data_bytes.proofs.Runs.{run-none, by-byte}
+use Rattle.octets.specs.quick.Data.{dataRun}
+use Rattle.octets.proofs.data_bytes.Runs.{run-none, by-byte}
 use Rattle.decoder.specs.declared.RunningStatus.{RunningStatus}
 use Rattle.decoder.specs.declared.RunningStatus.the-variants as s
 use Rattle.decoder.specs.declared.Decoder.{Decoder}

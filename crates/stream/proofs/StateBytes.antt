@@ -8,10 +8,10 @@ use lib.Dec.{eqb, leb}
 use lib.ListN.{length, getD, drop, drop-of-length-le}
 use lib.Seq.{sets, sets-eq, drop-cons}
 use borrow.Author.Tests.{eqb-true, leb-true}
-use Rattle.boundary.specs.Answer.{flag}
+use Rattle.laws.specs.Choice.{flag}
 use Rattle.laws.proofs.Tests.{both}
-use Rattle.byte_words.specs.quick.Words.{word}
-use Rattle.byte_words.proofs.Words.{digit0, digit1, digit2, digit3, digit4, digit5, digit6, digit7}
+use Rattle.octets.specs.quick.Words.{word}
+use Rattle.octets.proofs.words.Words.{digit0, digit1, digit2, digit3, digit4, digit5, digit6, digit7}
 use Rattle.decoder.specs.declared.RunningStatus.{RunningStatus}
 use Rattle.decoder.specs.declared.RunningStatus.the-variants as s
 use Rattle.decoder.specs.declared.Decoder.{Decoder}

@@ -8,7 +8,7 @@ use borrow.Author.Tests.{eqb-true, eqb-false, ltb-true, ltb-false, leb-true}
 use Rattle.laws.proofs.Tests.{both, split, true-is-not-false}
 use Rattle.wire.specs.Status.{dataLength}
 use Rattle.wire.proofs.DataLength.{two-low, one-middle, two-high}
-use Rattle.real_time.specs.Realtime.{realtimeOf}
+use Rattle.wire.specs.RealTime.{realtimeOf}
 use Rattle.decoder.specs.declared.Class.the-variants as k
 use Rattle.decoder.specs.declared.MaybeReport.{MaybeReport}
 use Rattle.decoder.specs.Step.{messageReport, realtimeReport}

@@ -1,13 +1,13 @@
 -- The decoder's reports in plain numbers: a kind, a status byte and two numbers.
 use mathlib.Core.Bool.{Bool}
 use Prim.Native.Nat.{ℕ, _+_}
-use Rattle.boundary.specs.Answer.{flag}
-use Rattle.channel_message.specs.declared.ChannelMessage.{ChannelMessage}
-use Rattle.channel_message.specs.declared.ChannelMessage.the-variants as m
-use Rattle.system_common.specs.declared.SystemCommon.{SystemCommon}
-use Rattle.system_common.specs.declared.SystemCommon.the-variants as y
-use Rattle.channel_message.specs.Message.{statusNibble}
-use Rattle.real_time.specs.Realtime.{realtimeByte}
+use Rattle.laws.specs.Choice.{flag}
+use Rattle.wire.specs.declared.channel_message.ChannelMessage.{ChannelMessage}
+use Rattle.wire.specs.declared.channel_message.ChannelMessage.the-variants as m
+use Rattle.wire.specs.declared.system_common.SystemCommon.{SystemCommon}
+use Rattle.wire.specs.declared.system_common.SystemCommon.the-variants as y
+use Rattle.wire.specs.ChannelMessage.{statusNibble}
+use Rattle.wire.specs.RealTime.{realtimeByte}
 use Rattle.decoder.specs.declared.Report.{Report}
 use Rattle.decoder.specs.declared.Report.the-variants as r
 use Rattle.decoder.specs.declared.MaybeReport.{MaybeReport}

@@ -1,8 +1,8 @@
 // What a call answers, by the report of the last byte that it used.
 ghost use mathlib.Core.Path.{_≡_};
 ghost use mathlib.Core.Bool.{true, false};
-ghost use Rattle.system_common.specs.declared.SystemCommon.the-variants as y;
-ghost use Rattle.real_time.specs.Realtime.{realtimeOf};
+ghost use Rattle.wire.specs.declared.system_common.SystemCommon.the-variants as y;
+ghost use Rattle.wire.specs.RealTime.{realtimeOf};
 ghost use Rattle.decoder.specs.State.{limit};
 ghost use Rattle.decoder.specs.Step.{realtimeReport};
 ghost use Rattle.decoder.specs.declared.Report.the-variants as r;

@@ -34,11 +34,11 @@ fn moved_words(start: usize, from: usize, most: usize, store: &mut [u8], bytes: 
     let mut used = from;
     let mut left = most;
     while 8 <= left {
-        let word = byte_words::word_at(bytes, used);
-        if word & byte_words::TOPS != 0 {
+        let word = octets::words::word_at(bytes, used);
+        if word & octets::words::TOPS != 0 {
             return Moved { at, used, left };
         }
-        byte_words::put_word(word, store, at);
+        octets::words::put_word(word, store, at);
         at += 8;
         used += 8;
         left -= 8;

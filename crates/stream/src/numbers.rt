@@ -3,7 +3,7 @@ ghost use mathlib.Core.Path.{_≡_};
 ghost use Prim.Native.Nat.{_+_, _*_, _/_, _%_, _≤_, _<_};
 ghost use lib.Dec.{eqb};
 ghost use lib.ListN.{length, set};
-ghost use Rattle.byte_words.specs.quick.Words.{putWord};
+ghost use Rattle.octets.specs.quick.Words.{putWord};
 ghost use Rattle.wire.specs.Status.{dataLength};
 ghost use Rattle.decoder.specs.declared.RunningStatus.the-variants as s;
 ghost use Rattle.decoder.specs.State.{waitsSoundly};
@@ -91,7 +91,7 @@ pub fn put_open(len: usize, state: &mut [u8])
     requires { ⌜ (length (now state) ≡ 14) × (len < 4_294_967_296) ⌝ }
     ensures { λ _. ⌜ now (state .exit) ≡ putWord (1 + 256 * len) (now (state .entry)) 0 ⌝ }
 {
-    byte_words::put_word((1 + 256 * len) as u64, state, 0);
+    octets::words::put_word((1 + 256 * len) as u64, state, 0);
 }
 
 // No frame.
@@ -99,7 +99,7 @@ pub fn put_closed(state: &mut [u8])
     requires { ⌜ length (now state) ≡ 14 ⌝ }
     ensures { λ _. ⌜ now (state .exit) ≡ putWord 0 (now (state .entry)) 0 ⌝ }
 {
-    byte_words::put_word(0, state, 0);
+    octets::words::put_word(0, state, 0);
 }
 
 // Is this an open frame's first number, its length within the limit?

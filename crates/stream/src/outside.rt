@@ -22,7 +22,7 @@ fn skip(at: usize, bytes: &[u8]) -> usize
 {
     let mut i = at;
     while 8 <= bytes.len() - i {
-        if byte_words::word_at(bytes, i) & byte_words::TOPS != 0 {
+        if octets::words::word_at(bytes, i) & octets::words::TOPS != 0 {
             return i;
         }
         i += 8;

@@ -89,7 +89,7 @@ pub fn put_state(d: Decoder, state: &mut [u8])
 {
     let len = d.len;
     let status = d.status;
-    state[0] = boundary::flag_of(d.in_sysex);
+    state[0] = octets::flag_of(d.in_sysex);
     state[1] = (len % 256) as u8;
     state[2] = (len / 0x100 % 256) as u8;
     state[3] = (len / 0x1_0000 % 256) as u8;

@@ -1,6 +1,8 @@
 // Text put into a lent buffer piece by piece: each call answers where the next piece goes. What has no room is left out.
 // A list of names is one text, with a bar between two names.
 
+pub mod refusals;
+
 // One byte.
 pub fn put(out: &mut [u8], at: usize, byte: u8) -> usize {
     if at < out.len() {

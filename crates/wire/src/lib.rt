@@ -7,8 +7,22 @@ ghost use lib.ListN.{length, take};
 ghost use Rattle.refusal.specs.Outcome.{Writes, withRoom};
 ghost use Rattle.wire.specs.Status.{dataLength};
 ghost use Rattle.wire.specs.Channel.{channelOf, channelTold};
+
+pub mod channel_message;
+pub mod real_time;
+pub mod system_common;
+
+pub use channel_message::ChannelMessage;
+pub use channel_message::MaybeChannelMessage;
+pub use channel_message::MaybeLen;
+pub use real_time::MaybeRealtime;
+pub use real_time::Realtime;
 use refusal::Count;
 use refusal::Refusal;
+pub use system_common::CommonStatus;
+pub use system_common::MaybeCommonStatus;
+pub use system_common::MaybeSystemCommon;
+pub use system_common::SystemCommon;
 
 pub const SYSEX_START: u8 = 0xF0;
 

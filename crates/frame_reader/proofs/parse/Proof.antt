@@ -16,8 +16,8 @@ enum-known-e c = search needs
 enum-known-record : tie.Need-enum-known-record
 enum-known-record c = search needs
 
-tested-requires : tie.Need-tested-requires
-tested-requires c κs = search needs
+from-tested-requires : tie.Need-from-tested-requires
+from-tested-requires c κs = search needs
 
 returns : tie.Need-returns
 returns c = rw (← c .before .before .before .read-record .ensures, c .before .e .given .1)
@@ -25,7 +25,7 @@ returns c = rw (← c .before .before .before .read-record .ensures, c .before .
 returns-2 : tie.Need-returns-2
 returns-2 c = let r = c .before .before .before .«record» .given in
     let frame : Head → Frame = λ m. record { device = r .0 .0 .device; head = m } in
-    rw (← c .before .before .before .before .before .read-record .ensures, r .1) (ap (λ (m : Head). gives (frame m)) (c .tested .ensures))
+    rw (← c .before .before .before .before .before .read-record .ensures, r .1) (ap (λ (m : Head). gives (frame m)) (c .from-tested .ensures))
 
 pub parse-spec : {M : Type 1} → statement M
 parse-spec =
@@ -34,6 +34,6 @@ parse-spec =
     read-record-requires
     enum-known-e
     enum-known-record
-    tested-requires
+    from-tested-requires
     returns
     returns-2)

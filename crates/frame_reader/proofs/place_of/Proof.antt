@@ -1,6 +1,6 @@
 -- `place_of` meets its contract: the prefix is as long as the command's fields.
-use Rattle.payload.proofs.ByKind.{length-wire}
-use Rattle.payload.specs.Wire.{fieldList}
+use Rattle.message.proofs.prefix.ByKind.{length-wire}
+use Rattle.message.specs.Prefix.{fieldList}
 use borrow.Author.Tests.{not-true, not-false}
 use native.Mathlib.Omega.{arith}
 use mathlib.Core.Bool.{true}

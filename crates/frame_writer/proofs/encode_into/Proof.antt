@@ -1,6 +1,6 @@
 -- `encode_into` meets its contract: 5 first, then the message's own fields.
 use Rattle.frame_writer.proofs.Answers.{same-fields}
-use Rattle.device.specs.Device.{deviceByte, deviceInRange}
+use Rattle.ids.specs.Device.{deviceByte, deviceInRange}
 use Rattle.refusal.proofs.Written.{stopped, went-on}
 use Rattle.refusal.specs.declared.Refusal.the-variants as r
 use borrow.Author.Tests.{not-true, not-false}

@@ -1,5 +1,5 @@
 -- `encoded_len` meets its contract: the prefix has at most five bytes, so only the run can make the sum too large.
-use Rattle.payload.proofs.ByKind.{prefix-small}
+use Rattle.message.proofs.prefix.ByKind.{prefix-small}
 use native.Mathlib.Omega.{arith}
 use mathlib.Core.Path.{_∙_}
 use borrow.Author.Needs.{needs}

@@ -1,6 +1,6 @@
 -- `frame_len` meets its contract: the sum is formed only where it fits.
 use Prim.Native.Nat.{_^_}
-use Rattle.payload.specs.Wire.{carriesRun}
+use Rattle.message.specs.Prefix.{carriesRun}
 use borrow.Author.Tests.{lt-ltb, le-ltb, not-true, not-false}
 use native.Mathlib.Omega.{arith}
 use native.Mathlib.Nat.{add-zero}

@@ -1,8 +1,8 @@
 -- `write_fields` meets its contract: fields, length, room, each by its own test, then the row.
 use Rattle.frame_writer.proofs.Answers.{needed-own, own-within, own-front, fields-no-room, fields-written}
 use Rattle.frame_writer.specs.Writer.{lengthFor}
-use Rattle.payload.proofs.ByKind.{prefix-small, padded-length, padded-front}
-use Rattle.payload.specs.Wire.{prefixOf, fieldsTold, checkedFields}
+use Rattle.message.proofs.prefix.ByKind.{prefix-small, padded-length, padded-front}
+use Rattle.message.specs.Prefix.{prefixOf, fieldsTold, checkedFields}
 use Rattle.refusal.proofs.Written.{counted-first, refused-first}
 use Rattle.refusal.specs.Outcome.{counted}
 use lib.ListN.{length}

@@ -1,5 +1,5 @@
 -- `write_record` meets its contract: 5, then 6, then the fields.
-use Rattle.device.specs.Device.{deviceByte, deviceInRange}
+use Rattle.ids.specs.Device.{deviceByte, deviceInRange}
 use Rattle.command.specs.Command.{commandOf, commandTold}
 use Rattle.refusal.proofs.Written.{stopped, went-on, counted-first, refused-first}
 use Rattle.refusal.specs.declared.Refusal.the-variants as r

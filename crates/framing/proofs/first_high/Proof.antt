@@ -1,7 +1,7 @@
 -- `first_high` meets its contract: the byte right behind the run of data bytes, where there is one.
 use Rattle.framing.proofs.Bytes.{high-behind, high-nowhere}
 use Rattle.framing.specs.declared.MaybeByte.the-variants as m
-use Rattle.data_bytes.specs.quick.Data.{dataRun}
+use Rattle.octets.specs.quick.Data.{dataRun}
 use native.Mathlib.Omega.{arith}
 use borrow.Author.Tests.{leb-true}
 use lib.ListN.{length, getD}

@@ -1,5 +1,5 @@
 -- `not_read` meets its contract: the refusal's numbers, and nothing behind them.
-use Rattle.boundary.specs.declared.Answer.{Answer}
+use Rattle.host_answer.specs.declared.Answer.{Answer}
 use mathlib.Core.Path.{ap}
 use borrow.Author.Needs.{needs}
 use Rattle.host_frames.proofs.not_read.Statement.{statement}

@@ -1,8 +1,8 @@
 -- `dm_in_sysex` meets its contract: 20 for bytes that are no state, else the flag that they say.
 use Prim.Native.Nat.{ℕ}
 use Rattle.stream.proofs.StateBytes.{state-is-long}
-use Rattle.boundary.specs.Answer.{flag}
-use Rattle.boundary.specs.Answer.{answerOf}
+use Rattle.laws.specs.Choice.{flag}
+use Rattle.host_answer.specs.Answer.{answerOf}
 use Rattle.decoder.specs.declared.Decoder.{Decoder}
 use borrow.Author.Tests.{not-true, not-false}
 use Rattle.refusal.specs.Outcome.{gives}

@@ -6,8 +6,8 @@ use Prim.Native.Nat.{ℕ, _+_, _-_, _≤_, min}
 use lib.ListN.{length, take, drop}
 use Rattle.laws.specs.Choice.{pick}
 use Rattle.laws.specs.Window.{window}
-use Rattle.data_bytes.specs.quick.Data.{dataRun}
-use Rattle.byte_words.specs.quick.Words.{putWord}
+use Rattle.octets.specs.quick.Data.{dataRun}
+use Rattle.octets.specs.quick.Words.{putWord}
 use Rattle.wire.specs.Status.{dataLength}
 use Rattle.decoder.specs.declared.Decoder.{Decoder}
 use Rattle.decoder.specs.State.{limit, sound}

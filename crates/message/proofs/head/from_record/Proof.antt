@@ -3,7 +3,7 @@ use Rattle.message.specs.declared.head.Frame.{Frame}
 use Rattle.message.specs.declared.head.Head.{Head}
 use Rattle.refusal.specs.Outcome.{gives}
 use borrow.Author.Tests.{not-true, not-false}
-use Rattle.device.specs.Device.{deviceInRange}
+use Rattle.ids.specs.Device.{deviceInRange}
 use mathlib.Core.Bool.{true, false}
 use mathlib.Core.Path.{_≡_, ap, sym, _∙_}
 use borrow.Author.Needs.{needs}
@@ -39,8 +39,8 @@ enum-known-e-2 c = search needs
 enum-known-own : tie.Need-enum-known-own
 enum-known-own c = search needs
 
-tested-requires : tie.Need-tested-requires
-tested-requires c κs = search needs
+from-tested-requires : tie.Need-from-tested-requires
+from-tested-requires c κs = search needs
 
 returns-2 : tie.Need-returns-2
 returns-2 c = let a = c .before .before .before .before .before .before .args in
@@ -59,7 +59,7 @@ returns-4 c = let b = c .before .before .before .before .before .before .before 
     let a = b .before .before .before .args in
     let ok : deviceInRange (a .device) ≡ true = sym (b .before .before .device-in-range .ensures) ∙ not-false _ (b .before .if1 .left) in
     rw (ok, ← b .from-byte .ensures, c .before .before .before .before .before .before .known .given .1, ← c .before .before .before .before .check .ensures, c .before .before .own .given .1)
-    (ap (λ (m : Head). gives (frame m)) (c .tested .ensures))
+    (ap (λ (m : Head). gives (frame m)) (c .from-tested .ensures))
 
 pub from-record-spec : {M : Type 1} → statement M
 from-record-spec =
@@ -74,7 +74,7 @@ from-record-spec =
     check-requires
     enum-known-e-2
     enum-known-own
-    tested-requires
+    from-tested-requires
     returns-2
     returns-3
     returns-4)

@@ -4,7 +4,7 @@ use mathlib.Core.List.{List}
 use Prim.Native.Nat.{ℕ, _+_, _-_, _<_}
 use native.Mathlib.Omega.{arith}
 use lib.ListN.{getD}
-use Rattle.data_bytes.proofs.Words.{no-tops}
+use Rattle.octets.proofs.data_bytes.Words.{no-tops}
 use Rattle.stream.specs.quick.Going.{MovedTo}
 use Rattle.stream.proofs.Moving.{moving-begins, moving-length, moving-word, word-plain}
 use Rattle.stream.proofs.frame.moved_words.Statement.{statement}

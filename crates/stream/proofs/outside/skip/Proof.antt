@@ -2,7 +2,7 @@
 use Prim.Native.Nat.{ℕ, _-_, _<_}
 use native.Mathlib.Omega.{arith}
 use lib.ListN.{length, getD}
-use Rattle.data_bytes.proofs.Words.{no-tops}
+use Rattle.octets.proofs.data_bytes.Words.{no-tops}
 use Rattle.stream.specs.quick.Going.{Skipped}
 use Rattle.stream.proofs.Moving.{skip-begins, skip-within, skip-word}
 use Rattle.stream.proofs.outside.skip.Statement.{statement}

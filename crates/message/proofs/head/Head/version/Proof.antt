@@ -1,8 +1,8 @@
 -- `Head::version` meets its contract: the messages that carry a version are those that carry a run.
 use Rattle.message.proofs.Versions.{version-there, version-lacking}
 use Rattle.message.specs.declared.head.MaybeVersion.the-variants as v
-use Rattle.fields.specs.declared.Fields.{Fields}
-use Rattle.payload.specs.Wire.{carriesRun}
+use Rattle.message.specs.declared.fields.Fields.{Fields}
+use Rattle.message.specs.Prefix.{carriesRun}
 use mathlib.Core.Path.{ap, sym, _∙_}
 use borrow.Author.Needs.{needs}
 use Rattle.message.proofs.head.Head.version.Statement.{statement}

@@ -1,0 +1,23 @@
+// The decoder with its state changed in place: thin calls over the calls that take the state by value.
+ghost use mathlib.Core.Path.{_≡_};
+ghost use Rattle.decoder.specs.State.{reset};
+ghost use Rattle.decoder.specs.Call.{call};
+ghost use Rattle.decoder.specs.InPlace.{FeedsInPlace};
+use crate::Decoder;
+use crate::by_value::TakeAnswer;
+
+// Takes bytes until the first that reports, and leaves the state for the next call behind the reference. Refuses 20.
+pub fn feed(state: &mut Decoder, store: &mut [u8], bytes: &[u8]) -> TakeAnswer
+    ensures { λ r. ⌜ FeedsInPlace (call (now (state .entry)) (now (store .entry)) (now (bytes .entry))) r (now (state .entry)) (now (state .exit)) (now (store .entry)) (now (store .exit)) ⌝ }
+{
+    let next = crate::by_value::feed_by_value(*state, store, bytes);
+    *state = next.state;
+    next.answer
+}
+
+// Forgets the open frame, the status and pending data. Takes any state.
+pub fn reset(state: &mut Decoder)
+    ensures { λ _. ⌜ now (state .exit) ≡ reset (now (state .entry)) ⌝ }
+{
+    *state = (*state).reset();
+}

@@ -1,2 +1,0 @@
-pub mod Reported
-pub mod NamesDropped

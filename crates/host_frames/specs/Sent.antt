@@ -1,0 +1,17 @@
+-- Frames to be written, at the boundary: every field a plain number.
+use Prim.Native.Nat.{ℕ}
+use lib.Dec.{eqb}
+use Rattle.refusal.specs.Outcome.{Outcome, andThen}
+use Rattle.command.specs.Command.{commandOf}
+use Rattle.message.specs.declared.fields.Fields.{Fields}
+use Rattle.message.specs.Head.{headFrom}
+use Rattle.frame_writer.specs.Writer.{headLength}
+
+-- plain numbers as fields
+abbrev pub fieldsFrom : ℕ → ℕ → ℕ → ℕ → ℕ → ℕ → ℕ → ℕ → ℕ → ℕ → Fields
+fieldsFrom free version bank program last pattern has interface rx tx =
+    record { free = free; version = version; bank = bank; program = program; last = last; pattern = pattern; «has_pattern» = eqb has 1; interface = interface; rx = rx; tx = tx }
+
+-- the length of a command's message beside a run: no field but a pattern's flag plays a part. 6, then 22
+abbrev pub lengthAsked : ℕ → ℕ → ℕ → Outcome ℕ
+lengthAsked code has run = andThen (commandOf code) (λ k. headLength (headFrom k (fieldsFrom 0 0 0 0 0 0 has 0 0 0)) run)

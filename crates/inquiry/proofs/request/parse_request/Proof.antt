@@ -1,0 +1,40 @@
+-- `parse_request` meets its contract: framing, shape, device.
+use borrow.Author.Tests.{not-true, not-false}
+use mathlib.Core.Path.{sym, _∙_}
+use borrow.Author.Needs.{needs}
+use Rattle.inquiry.proofs.request.parse_request.Statement.{statement}
+use Rattle.inquiry.proofs.request.parse_request.Tie as tie
+
+is-framed-requires : tie.Need-is-framed-requires
+is-framed-requires c κs = search needs
+
+returns : tie.Need-returns
+returns c = rw (sym (c .before .is-framed .ensures) ∙ not-true _ (c .if1 .taken))
+
+is-request-requires : tie.Need-is-request-requires
+is-request-requires c κs = search needs
+
+returns-2 : tie.Need-returns-2
+returns-2 c = rw (sym (c .before .before .before .is-framed .ensures) ∙ not-false _ (c .before .before .if1 .left), sym (c .before .is-request .ensures) ∙ not-true _ (c .if2 .taken))
+
+byte-at-requires : tie.Need-byte-at-requires
+byte-at-requires c κs = search needs
+
+from-byte-requires : tie.Need-from-byte-requires
+from-byte-requires c κs = search needs
+
+returns-3 : tie.Need-returns-3
+returns-3 c = c .from-byte .ensures
+    ∙ rw (sym (c .before .before .before .before .before .is-framed .ensures) ∙ not-false _ (c .before .before .before .before .if1 .left), sym (c .before .before .before .is-request .ensures) ∙ not-false _ (c .before .before .if2 .left), c .before .byte-at .ensures)
+
+pub parse-request-spec : {M : Type 1} → statement M
+parse-request-spec =
+    tie.close
+    (tie.spec
+    is-framed-requires
+    returns
+    is-request-requires
+    returns-2
+    byte-at-requires
+    from-byte-requires
+    returns-3)

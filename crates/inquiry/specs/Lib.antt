@@ -1,0 +1,3 @@
+pub mod Identity
+pub mod Reply
+pub mod Request
