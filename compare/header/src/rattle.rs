@@ -113,7 +113,7 @@ pub fn engine(sources: &[(String, String)]) -> Side {
         }
         assert_eq!(text.matches("no_mangle").count(), text.matches("#[no_mangle]\npub extern \"C\" fn ").count(), "another form of export in {name}");
         records(&text, "#[repr(C)]", &mut side);
-        let at_the_boundary = name.starts_with("host") || name == "stream" || name == "held_bytes" || name == "boundary";
+        let at_the_boundary = name.starts_with("host") || name == "stream" || name == "held_keys::bytes";
         for (constant, value) in constants(&text) {
             let into = if at_the_boundary { &mut side.constants } else { &mut side.others };
             if into.insert(constant.clone(), value).is_some_and(|before| before != value) {

@@ -23,7 +23,8 @@ use Rattle.damage.proofs.Thin.{IsCall, Thin, thin-singly, thin-promises
 
 is-call : (d : Decoder) (store bytes : List ℕ) (answer : FeedAnswer) (next : Decoder) (left : List ℕ) → sound d ≡ true
     → Feeds (call d store bytes) answer store left × (next ≡ fedState (answered answer) d)
-    → IsCall (λ (a : FeedAnswer). fedCount (answered a)) (λ (a : FeedAnswer) (m : List ℕ). fedReports (answered a) m) (λ (k : Decoder). k) (call d store bytes) d store answer next left
+    → IsCall (λ (a : FeedAnswer). fedCount (answered a)) (λ (a : FeedAnswer) (m : List ℕ). fedReports (answered a) m) (λ (k : Decoder). k)
+    (call d store bytes) d store answer next left
 is-call d store bytes answer next left ok met =
     record {
       count = ap fedCount (met .0 .answers);

@@ -37,7 +37,8 @@ same-state (refused k values) d = refl
 
 is-call : (d : Decoder) (store bytes : List ℕ) (answer : TakeAnswer) (next : Decoder) (left : List ℕ) → sound d ≡ true
     → FeedsInPlace (call d store bytes) answer d next store left
-    → IsCall (λ (x : TakeAnswer). takenCount (takenTold x)) (λ (x : TakeAnswer) (m : List ℕ). takenReports (takenTold x) m) (λ (k : Decoder). k) (call d store bytes) d store answer next left
+    → IsCall (λ (x : TakeAnswer). takenCount (takenTold x)) (λ (x : TakeAnswer) (m : List ℕ). takenReports (takenTold x) m) (λ (k : Decoder). k)
+    (call d store bytes) d store answer next left
 is-call d store bytes answer next left ok met =
     let o = call d store bytes in
     record {

@@ -63,7 +63,8 @@ find : (place : ℕ) (r : Reported) (rs : List Reported) (xs ys : List Placed) �
     → Among (record { place = place; report = r } ∷ xs) (map (λ (z : Reported). record { place = place; report = z }) rs ++ ys)
 find place r [] xs ys h a = absurd h
 find place r (x ∷ rs) xs ys (inl e) a =
-    subst (λ (z : Reported). Among (record { place = place; report = r } ∷ xs) (record { place = place; report = z } ∷ map (λ (q : Reported). record { place = place; report = q }) rs ++ ys))
+    subst
+    (λ (z : Reported). Among (record { place = place; report = r } ∷ xs) (record { place = place; report = z } ∷ map (λ (q : Reported). record { place = place; report = q }) rs ++ ys))
     e (found (pass-all place rs xs ys a))
 find place r (x ∷ rs) xs ys (inr h) a = passed (find place r rs xs ys h a)
 
@@ -217,5 +218,6 @@ pub none-left-out : (ms : List Message) → allSendable ms ≡ true → (sent : 
     → length (arrives i n new sent) ≤ used
     → within used (untouchedReports i n new (sentMessages ms (ownPlaces woven 0))) ≡ untouchedReports i n new (sentMessages ms (ownPlaces woven 0))
 none-left-out ms ok sent woven i n new used enough =
-    all-within i n new sent (replicate (length (breakBytes i n new sent)) []) (length-replicate (length (breakBytes i n new sent)) []) used enough (sentMessages ms (ownPlaces woven 0)) 0
+    all-within i n new sent (replicate (length (breakBytes i n new sent)) []) (length-replicate (length (breakBytes i n new sent)) []) used enough
+    (sentMessages ms (ownPlaces woven 0)) 0
     (all-at sent ms ok 0 (ownPlaces woven 0) (own-stand woven sent 0 refl))

@@ -195,7 +195,8 @@ module _ (sent : List Tag) where
   first-places (m ∷ ms) ok low ps s =
       let each = both (sendable m) (allSendable ms) ok in
       let r = sendable-at sent m (each .0) low ps (allTagged ms) s in
-      over-sendable m (each .0) low ps (allTagged ms) s ∙ ap (λ (l : List ℕ). firstPlace (take (length (bytesOf m)) ps) ∷ l) (first-places ms (each .1) _ (drop (length (bytesOf m)) ps) (r .1))
+      over-sendable m (each .0) low ps (allTagged ms) s ∙ ap (λ (l : List ℕ). firstPlace (take (length (bytesOf m)) ps) ∷ l)
+      (first-places ms (each .1) _ (drop (length (bytesOf m)) ps) (r .1))
 
 -- the first of these places from a place on, or the end
 abbrev firstFrom : ℕ → ℕ → List ℕ → ℕ

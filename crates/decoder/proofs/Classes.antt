@@ -34,7 +34,7 @@ range-of b =
     above : 0xF6 ≤ b → (b ≡ 0xF6 → ⊥) → (b ≡ 0xF7 → ⊥) → 0xF8 ≤ b
     above l p q = omega arith
 
--- and back
+-- a byte within a class's bounds is of that class
 pub class-is : (b : ℕ) (c : Class) → Range c b → classOf b ≡ c
 unfolding classOf
 class-is b k.Data h = rw (lt-ltb b 0x80 h)

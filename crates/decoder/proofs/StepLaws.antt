@@ -175,7 +175,8 @@ two-reports-are d b u w = go (classOf b) (range-of b)
 
     collected : (v : RunningStatus) → P (collect v d b)
     collected s.None = one m.None
-    collected (s.Status v) = by-test P (eqb (d .have) 0) _ _ (λ e. by-test P (leb (dataLength v) 1) _ _ (λ l. one (messageReport v b 0)) (λ l. one m.None)) (λ e. one (messageReport v (d .data0) b))
+    collected (s.Status v) = by-test P (eqb (d .have) 0) _ _
+        (λ e. by-test P (leb (dataLength v) 1) _ _ (λ l. one (messageReport v b 0)) (λ l. one m.None)) (λ e. one (messageReport v (d .data0) b))
 
     go : (c : Class) → Range c b → P (stepIn c d b)
     go k.Data h = by-test P (d .in_sysex) _ _ (λ e. by-test P (ltb (d .len) limit) _ _ (λ l. one m.None) (λ l. one (m.Some (r.SysExTooLong limit)))) (λ e. collected (d .status))
@@ -183,7 +184,9 @@ two-reports-are d b u w = go (classOf b) (range-of b)
     go k.Start h = lone (d .in_sysex)
     go k.Undefined h = lone (d .in_sysex)
     go k.Tune h = tune (d .in_sysex) h
-    go k.End h = by-test P (d .in_sysex) _ _ (λ e. by-test P (ltb (d .len) limit) _ _ (λ l. one (m.Some (r.SysEx (d .len + 1)))) (λ l. one (m.Some (r.SysExTooLong limit)))) (λ e. one m.None)
+    go k.End h = by-test P (d .in_sysex) _ _
+        (λ e. by-test P (ltb (d .len) limit) _ _ (λ l. one (m.Some (r.SysEx (d .len + 1)))) (λ l. one (m.Some (r.SysExTooLong limit))))
+        (λ e. one m.None)
     go k.Realtime h = one (realtimeReport (realtimeOf b))
 
 -- what the store holds plays no part in a call's answer: bytes used, state and reports are the same over any two stores

@@ -40,6 +40,6 @@ abbrev pub reportList : Bool → MaybeReport → List Report
 reportList true x = r.SysExInterrupted ∷ ownReport x
 reportList false x = ownReport x
 
--- the same for a list of reports, all read over one store
+-- a list of reports, all read over one store
 abbrev pub toldAll : List ℕ → List Report → List (Outcome Event)
 toldAll store xs = map (told store) xs

@@ -1,4 +1,7 @@
 // The stream decoder: bytes in any pieces become whole MIDI messages.
+// Three things are awkward about a MIDI cable. A status byte may be left out where it is that of the message before (running status), so what a data
+// byte means hangs on bytes long gone. A real-time byte may stand between any two bytes, inside a message or a frame, and must disturb neither. And
+// a read may end anywhere, so whatever is half read has to be kept until the next call; here the caller keeps it.
 ghost use mathlib.Core.Path.{_≡_};
 ghost use Prim.Native.Nat.{_≤_, _<_};
 ghost use lib.ListN.{length};
@@ -16,7 +19,8 @@ use wire::ChannelMessage;
 use wire::Realtime;
 use wire::SystemCommon;
 
-// The frame limit: the longest frame that is kept, F0 and F7 counted.
+// The frame limit: the longest frame that is kept, F0 and F7 counted. It is the length of the longest dump that the manual prints, the names of a
+// bank: seven bytes of header, version and bank, a run of 2,344, and F7.
 pub const MAX_SYSEX_LEN: usize = 2354;
 
 // The status byte in force, where there is one.

@@ -61,7 +61,8 @@ module _ (h prefix run out s n m : List ℕ) (seven : length h ≡ 7) (room : 8 
         let at : ℕ = 7 + length prefix + length run in
         let front : List ℕ = (h ++ prefix) ++ run in
         let place : length front ≡ at = length-append (h ++ prefix) run ∙ ap (λ (k : ℕ). k + length run) front-length in
-        let rest : drop (length run) (drop (length prefix) (drop 7 out)) ≡ drop at out = drop-drop (length run) (length prefix) (drop 7 out) ∙ drop-drop (length prefix + length run) 7 out ∙ ap (λ (k : ℕ). drop k out) (sum 7 (length prefix) (length run)) in
+        let rest : drop (length run) (drop (length prefix) (drop 7 out)) ≡ drop at out = drop-drop (length run) (length prefix) (drop 7 out) ∙
+        drop-drop (length prefix + length run) 7 out ∙ ap (λ (k : ℕ). drop k out) (sum 7 (length prefix) (length run)) in
         let cell : drop at out ≡ getD out at 0 ∷ drop (suc at) out = drop-cons out at 0 (omega arith) in
         let last : suc at ≡ 8 + (length prefix + length run) = omega arith in
         let all : front ++ (0xF7 ∷ []) ≡ h ++ (prefix ++ (run ++ (0xF7 ∷ []))) = simp append-assoc in

@@ -74,41 +74,13 @@ fn put_header(device: u8, code: u8, out: &mut [u8])
     out[6] = code;
 }
 
-// Puts a prefix to the front of a buffer that has the room, byte by byte: for so few that is the quick way.
-fn put_prefix(prefix: &[u8], out: &mut [u8])
-    requires { ⌜ (length (now prefix) ≤ 5) × (length (now prefix) ≤ length (now out)) ⌝ }
-    ensures { λ _. ⌜ now (out .exit) ≡ now (prefix .entry) ++ drop (length (now (prefix .entry))) (now (out .entry)) ⌝ }
-{
-    let len = prefix.len();
-    if len == 0 {
-        return;
-    }
-    out[0] = prefix[0];
-    if len == 1 {
-        return;
-    }
-    out[1] = prefix[1];
-    if len == 2 {
-        return;
-    }
-    out[2] = prefix[2];
-    if len == 3 {
-        return;
-    }
-    out[3] = prefix[3];
-    if len == 4 {
-        return;
-    }
-    out[4] = prefix[4];
-}
-
 // Puts a whole frame to the front of a buffer that has the room.
 fn put_frame(device: u8, code: u8, prefix: &[u8], run: &[u8], out: &mut [u8])
-    requires { ⌜ (length (now prefix) ≤ 5) × (8 + (length (now prefix) + length (now run)) ≤ length (now out)) ⌝ }
+    requires { ⌜ 8 + (length (now prefix) + length (now run)) ≤ length (now out) ⌝ }
     ensures { λ _. ⌜ now (out .exit) ≡ row device code (now (prefix .entry)) (now (run .entry)) ++ drop (8 + (length (now (prefix .entry)) + length (now (run .entry)))) (now (out .entry)) ⌝ }
 {
     put_header(device, code, out);
-    put_prefix(prefix, &mut out[7..]);
+    octets::copies::copy_into(prefix, &mut out[7..]);
     let at = 7 + prefix.len();
     octets::copies::copy_into(run, &mut out[at..]);
     let end = at + run.len();
@@ -123,7 +95,7 @@ fn put_seven_bit(
     run: &[u8],
     out: &mut [u8],
 ) -> Count
-    requires { ⌜ (length (now prefix) ≤ 5) × (8 + (length (now prefix) + length (now run)) ≤ length (now out)) ⌝ }
+    requires { ⌜ 8 + (length (now prefix) + length (now run)) ≤ length (now out) ⌝ }
     ensures { λ r. ⌜ Writes (sevenBitWrite device command (now (prefix .entry)) (now (run .entry))) r (now (out .entry)) (now (out .exit)) ⌝ }
 {
     match framing::first_high(prefix) {

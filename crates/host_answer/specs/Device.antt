@@ -10,12 +10,12 @@ use Rattle.ids.specs.declared.device.DeviceId.the-variants as d
 abbrev pub deviceFrom : ℕ → ℕ → DeviceId
 deviceFrom everyone unit = pick (eqb everyone 0) (d.Unit unit) d.Broadcast
 
--- and back: 1 for everyone, 0 for a unit
+-- the first number of a device: 1 for everyone, 0 for a unit
 abbrev pub everyoneOf : DeviceId → ℕ
 everyoneOf (d.Unit n) = 0
 everyoneOf d.Broadcast = 1
 
--- 0 for everyone
+-- the second number of a device: its unit, 0 for everyone
 abbrev pub unitOf : DeviceId → ℕ
 unitOf (d.Unit n) = n
 unitOf d.Broadcast = 0

@@ -22,7 +22,7 @@ abbrev pub interfaceTold : InterfaceAnswer → Outcome Interface
 interfaceTold (ia.Ok x) = gives x
 interfaceTold (ia.Err e) = refusal e
 
--- and back: the byte of an interface
+-- the byte of an interface
 abbrev pub interfaceByte : Interface → ℕ
 interfaceByte i.Midi = 0
 interfaceByte i.Usb = 1

@@ -26,17 +26,17 @@ programOf n = unless (ltb n 128) 10 (n ∷ []) (gives (record { 0 = n }))
 abbrev pub patternOf : ℕ → Outcome PatternNumber
 patternOf n = unless (ltb n 32) 11 (n ∷ []) (gives (record { 0 = n }))
 
--- the answers in document 01's terms
+-- a bank's answer in document 01's terms
 abbrev pub bankTold : BankAnswer → Outcome Bank
 bankTold (b.Ok x) = gives x
 bankTold (b.Err e) = refusal e
 
--- the same for a program number
+-- a program number's answer in document 01's terms
 abbrev pub programTold : ProgramAnswer → Outcome ProgramNumber
 programTold (p.Ok x) = gives x
 programTold (p.Err e) = refusal e
 
--- the same for a pattern number
+-- a pattern number's answer in document 01's terms
 abbrev pub patternTold : PatternAnswer → Outcome PatternNumber
 patternTold (t.Ok x) = gives x
 patternTold (t.Err e) = refusal e

@@ -108,7 +108,7 @@ fn piece(fd: i32, path: &[u8], seen: Seen, store: &mut [u8], quiet: bool) -> See
     take(seen, store, &bytes[..n], quiet)
 }
 
-// The same state at the start of the next piece.
+// What was seen, at the start of the next piece.
 fn turned(seen: Seen) -> Seen {
     let state = seen.state;
     Seen {

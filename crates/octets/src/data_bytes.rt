@@ -13,7 +13,7 @@ fn tops(a: u8, b: u8, c: u8, d: u8, e: u8, f: u8, g: u8, h: u8) -> u64
     crate::words::join(a, b, c, d, e, f, g, h) & TOPS
 }
 
-// Those of the eight bytes from a place on, which are one load.
+// The top bits of the eight bytes from a place on, which are one load.
 fn tops_at(bytes: &[u8], at: usize) -> u64
     requires { ⌜ at + 8 ≤ length (now bytes) ⌝ }
     ensures { λ r. ⌜ r ≡ topBitsAt (now (bytes .entry)) at ⌝ }

@@ -15,7 +15,7 @@ top-bit-in high b i byte place below =
     let bit : b / 2 ^ 7 < 2 ^ 1 = omega arith in
     rw (shl-exact {a = b / 2 ^ 7} 1 i 8 bit (omega arith), or-shifted-r (b / 2 ^ 7) i high below) (add-comm (b / 128 * 2 ^ i) high)
 
--- and back: the bit at place i over seven bits of data
+-- unpacking: the bit at place i over seven bits of data
 pub top-bit-out : (d high i : ℕ) → bitOr (bitAnd d 127) ((bitAnd (high / 2 ^ i) 1 * 2 ^ 7) % 2 ^ 8) ≡ d % 128 + 128 * (high / 2 ^ i % 2)
 top-bit-out d high i =
     let bit : high / 2 ^ i % 2 ^ 1 < 2 ^ 1 = omega arith in

@@ -1,7 +1,7 @@
 -- Group by group the loops fill the buffer with the bytes of the definition, because place 8g + r of a packed run lies in group g
 -- at r, and place 7g + i of the raw bytes in group g at i.
 use mathlib.Core.Path.{_≡_, refl, ap, ap₂, subst₂, sym, _∙_}
-use mathlib.Core.List.{List, _∷_}
+use mathlib.Core.List.{List, [], _∷_}
 use Prim.Native.Nat.{ℕ, zero, suc, _+_, _*_, _-_, _/_, _%_, _^_, _≤_, _<_}
 use native.Mathlib.Nat.{pow-suc, mul-zero, mul-suc}
 use native.Mathlib.Numerals.{add-one}
@@ -73,6 +73,13 @@ packing-done raw from out₀ at out high i p room h =
     ∙ window-first out₀ at (tab (λ k. getD raw (from + k) 0 % 128) i) high (omega arith)
     ∙ ap (λ (x : ℕ). window out₀ at (x ∷ tab (λ k. getD raw (from + k) 0 % 128) i)) (p .bits)
     ∙ ap (λ (n : ℕ). window out₀ at (tops raw from n ∷ tab (λ k. getD raw (from + k) 0 % 128) n)) seven
+
+-- seven bytes taken out of their place make the group that they make there
+pub group-taken : (raw : List ℕ) (p a b d e f g h : ℕ) → a ≡ getD raw (p + 0) 0 → b ≡ getD raw (p + 1) 0 → d ≡ getD raw (p + 2) 0
+    → e ≡ getD raw (p + 3) 0 → f ≡ getD raw (p + 4) 0 → g ≡ getD raw (p + 5) 0 → h ≡ getD raw (p + 6) 0
+    → tab (groupByte (a ∷ b ∷ d ∷ e ∷ f ∷ g ∷ h ∷ []) 0) 8 ≡ tab (groupByte raw p) 8
+unfolding tops
+group-taken raw p a b d e f g h ea eb ed ee ef eg eh = rw (ea, eb, ed, ee, ef, eg, eh) refl
 
 -- what holds while a group is unpacked: i of its raw bytes are done
 pub record Unpacking (run : List ℕ) (at count : ℕ) (out₀ : List ℕ) (to : ℕ) (out : List ℕ) (i : ℕ) : Type 0 where

@@ -31,7 +31,7 @@ packed-length-too-large n h =
 pub unpacked-length-none : (n : ℕ) → n % 8 ≡ 1 → counted (k.Err (r.PackedRunLength n)) ≡ unpackedLengthOf n
 unpacked-length-none n h = rw (eq-eqb (n % 8) 1 h)
 
--- the same length in the two ways that the code comes to it
+-- the code comes to a length in two ways, and they agree
 pub unpacked-length-is : (n l : ℕ) → (n % 8 ≡ 1 → ⊥) → l ≡ unpackedLength n → counted (k.Ok l) ≡ unpackedLengthOf n
 unpacked-length-is n l h e = rw (ne-eqb (n % 8) 1 h, e)
 

@@ -13,7 +13,7 @@ use Rattle.refusal.specs.Outcome.{Outcome, gives, unless, andThen, withRoom}
 abbrev pub packedLength : ℕ → ℕ
 packedLength n = 8 * ((n + 6) / 7)
 
--- the same as an answer: 22 where the machine cannot hold it
+-- the packed length as an answer: 22 where the machine cannot hold it
 abbrev pub packedLengthOf : ℕ → Outcome ℕ
 packedLengthOf n = unless (ltb (packedLength n) (2 ^ 64)) 22 [] (gives (packedLength n))
 

@@ -33,23 +33,7 @@ fn with_top_bit(high: u8, byte: u8, i: usize) -> u8
     high | ((byte >> 7) << i)
 }
 
-// A group that the raw bytes may end in: eight bytes at a place of out from the raw bytes at from, and 0 behind the last.
-fn pack_last(raw: &[u8], from: usize, out: &mut [u8], at: usize)
-    requires { ⌜ (from < length (now raw)) × (at + 8 ≤ length (now out)) ⌝ }
-    ensures { λ _. ⌜ now (out .exit) ≡ window (now (out .entry)) at (tab (groupByte (now (raw .entry)) from) 8) ⌝ }
-{
-    let mut high: u8 = 0;
-    let mut i: usize = 0;
-    while i < RAW_GROUP {
-        let byte = byte_at(raw, from + i);
-        high = with_top_bit(high, byte, i);
-        out[at + 1 + i] = low_seven(byte);
-        i += 1;
-    }
-    out[at] = high;
-}
-
-// A whole group: the same, with no end of the raw bytes to look for.
+// A whole group: eight bytes at a place of out from the seven raw bytes at from.
 fn pack_group(raw: &[u8], from: usize, out: &mut [u8], at: usize)
     requires { ⌜ (from + 7 ≤ length (now raw)) × (at + 8 ≤ length (now out)) ⌝ }
     ensures { λ _. ⌜ now (out .exit) ≡ window (now (out .entry)) at (tab (groupByte (now (raw .entry)) from) 8) ⌝ }
@@ -63,6 +47,23 @@ fn pack_group(raw: &[u8], from: usize, out: &mut [u8], at: usize)
         i += 1;
     }
     out[at] = high;
+}
+
+// The group that the raw bytes end in: eight bytes at a place of out from the raw bytes at from, and 0 behind the last.
+fn pack_last(raw: &[u8], from: usize, out: &mut [u8], at: usize)
+    requires { ⌜ (from < length (now raw)) × (at + 8 ≤ length (now out)) ⌝ }
+    ensures { λ _. ⌜ now (out .exit) ≡ window (now (out .entry)) at (tab (groupByte (now (raw .entry)) from) 8) ⌝ }
+{
+    let filled = [
+        byte_at(raw, from),
+        byte_at(raw, from + 1),
+        byte_at(raw, from + 2),
+        byte_at(raw, from + 3),
+        byte_at(raw, from + 4),
+        byte_at(raw, from + 5),
+        byte_at(raw, from + 6),
+    ];
+    pack_group(&filled, 0, out, at);
 }
 
 // Packs the whole groups of raw to the front of out, which has the room.

@@ -72,13 +72,15 @@ module _ (l : List ℕ) (free : MiddleFree l) (at : ℕ) (store : List ℕ) (b n
   -- F4 and F5
   pub undefined-answers : 0xF4 ≤ b → b < 0xF6 → r ≡ numbersOf n true o.None → later ≡ putWord 0 l 0 → left ≡ store → Answers d store b n r later left
   undefined-answers low high t e q =
-      answers-by k.Undefined d store b n r later left (class-is b k.Undefined (low, high)) (record { state = cleared d; interrupted = true; report = o.None }) store refl refl refl t
+      answers-by k.Undefined d store b n r later left (class-is b k.Undefined (low, high))
+      (record { state = cleared d; interrupted = true; report = o.None }) store refl refl refl t
       (e ∙ closed-stored l free at) q
 
   -- F6, which reports itself too
   pub tune-answers : b ≡ 0xF6 → r ≡ numbersOf n true (o.Some (report.Common y.TuneRequest)) → later ≡ putWord 0 l 0 → left ≡ store → Answers d store b n r later left
   tune-answers is t e q =
-      answers-by k.Tune d store b n r later left (class-is b k.Tune is) (record { state = cleared d; interrupted = true; report = o.Some (report.Common y.TuneRequest) }) store refl refl refl t
+      answers-by k.Tune d store b n r later left (class-is b k.Tune is)
+      (record { state = cleared d; interrupted = true; report = o.Some (report.Common y.TuneRequest) }) store refl refl refl t
       (e ∙ closed-stored l free at) q
 
   -- F7 within the limit

@@ -100,7 +100,8 @@ module _ (w : Walked) (state₀ store₀ bytes state store : List ℕ) (at used 
   module _ (more : used < length bytes) where
     pub frame-answers : (r : FedAnswer) (later left : List ℕ) → Answers (openState at state) store (getD bytes used 0) (used + 1) r later left → Numbered w r later left
     frame-answers r later left a =
-        on-answers w bytes (openState at state₀) store used (i .on) more r later left (subst (λ (d : Decoder). Answers d store (getD bytes used 0) (used + 1) r later left) same-open a)
+        on-answers w bytes (openState at state₀) store used (i .on) more r later left
+        (subst (λ (d : Decoder). Answers d store (getD bytes used 0) (used + 1) r later left) same-open a)
 
     pub frame-goes-on : getD bytes used 0 < 256 → 0xF8 ≤ getD bytes used 0 → isRealtime (getD bytes used 0) ≡ false → InFrame w state₀ store₀ bytes state store at (used + 1)
     frame-goes-on small l f =

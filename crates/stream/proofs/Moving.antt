@@ -54,7 +54,8 @@ module _ (start from most : ℕ) (before bytes : List ℕ) (room : start + most 
     here = length-drop from bytes
 
     pub moving-length : length store ≡ length before
-    moving-length = ap length (m .moved) ∙ length-window before start (take (m .count) (drop from bytes)) (omega (arith, room, few, here, there, length-take-le (m .count) (drop from bytes) (omega (arith, few, here, there))))
+    moving-length = ap length (m .moved) ∙ length-window before start (take (m .count) (drop from bytes))
+        (omega (arith, room, few, here, there, length-take-le (m .count) (drop from bytes) (omega (arith, few, here, there))))
 
     byte-there : (j : ℕ) → getD bytes (used + j) 0 ≡ getD (drop from bytes) (m .count + j) 0
     byte-there j = there-at bytes from (m .count) used (m .next) j
@@ -91,13 +92,16 @@ module _ (start from most : ℕ) (before bytes : List ℕ) (room : start + most 
         one j l small s p n q e f g =
             let count-is : m .count + j + 1 ≡ q = omega (arith, g) in
             ap (λ (x : ℕ). set l p x) (ap (λ (y : ℕ). getD bytes y 0) f ∙ byte-there j) ∙ ap (λ (y : List ℕ). set y p (getD (drop from bytes) (m .count + j) 0)) s
-            ∙ further-one before (drop from bytes) start (m .count + j) p (omega (arith, m .rest, h, here, there, small)) (omega (arith, e, m .place)) (omega (arith, e, m .place, m .rest, h, room, small))
+            ∙ further-one before (drop from bytes) start (m .count + j) p (omega (arith, m .rest, h, here, there, small)) (omega (arith, e, m .place))
+            (omega (arith, e, m .place, m .rest, h, room, small))
             ∙ ap (λ (y : ℕ). window before start (take y (drop from bytes))) count-is
 
         first : store ≡ window before start (take (m .count + 0) (drop from bytes))
         first = m .moved ∙ ap (λ (y : ℕ). window before start (take y (drop from bytes))) (sym (add-zero (m .count)))
 
-        stored : set (set (set (set (set (set (set (set store at (getD bytes used 0)) (at + 1) (getD bytes (used + 1) 0)) (at + 2) (getD bytes (used + 2) 0)) (at + 3) (getD bytes (used + 3) 0)) (at + 4) (getD bytes (used + 4) 0)) (at + 5) (getD bytes (used + 5) 0)) (at + 6) (getD bytes (used + 6) 0)) (at + 7) (getD bytes (used + 7) 0)
+        stored : set
+            (set (set (set (set (set (set (set store at (getD bytes used 0)) (at + 1) (getD bytes (used + 1) 0)) (at + 2) (getD bytes (used + 2) 0)) (at + 3) (getD bytes (used + 3) 0)) (at + 4) (getD bytes (used + 4) 0)) (at + 5) (getD bytes (used + 5) 0)) (at + 6) (getD bytes (used + 6) 0))
+            (at + 7) (getD bytes (used + 7) 0)
             ≡ window before start (take (m .count + 8) (drop from bytes))
         stored =
             one 7 _ (omega arith)
@@ -151,7 +155,8 @@ moved-then start from most at₁ used₁ left₁ at used left before store₁ st
       rest = omega (arith, m .rest, n .rest);
       run = omega (arith, whole, n .run, ap dataRun behind);
       moved = n .moved ∙ ap₂ (λ (l : List ℕ) (ys : List ℕ). window l at₁ (take (n .count) ys)) (m .moved) behind
-          ∙ window-after before start (take (m .count) (drop from bytes)) (take (n .count) (drop (m .count) (drop from bytes))) at₁ (omega (arith, m .place, front)) (omega (arith, m .place, rest, few, room))
+          ∙ window-after before start (take (m .count) (drop from bytes)) (take (n .count) (drop (m .count) (drop from bytes))) at₁
+          (omega (arith, m .place, front)) (omega (arith, m .place, rest, few, room))
           ∙ ap (window before start) (sym (take-add (m .count) (n .count) (drop from bytes)));
     }
 

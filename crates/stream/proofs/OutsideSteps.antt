@@ -68,7 +68,8 @@ force m a z o h =
     some : 16_777_216 ≤ m → (eqb (m / 16_777_216) 0 || (eqb (m / 16_777_216) 1 && (leb a 127 && eqb (dataLength (statusIn m)) 2))) ≡ true
         → (m / 16_777_216 ≡ 1) × (a < 0x80) × (dataLength (statusIn m) ≡ 2)
     some l e =
-        let q = both (eqb (m / 16_777_216) 1) _ (ap (λ (t : Bool). t || (eqb (m / 16_777_216) 1 && (leb a 127 && eqb (dataLength (statusIn m)) 2))) (sym (ne-eqb (m / 16_777_216) 0 (λ z. omega (arith, z, l)))) ∙ e) in
+        let q = both (eqb (m / 16_777_216) 1) _
+        (ap (λ (t : Bool). t || (eqb (m / 16_777_216) 1 && (leb a 127 && eqb (dataLength (statusIn m)) 2))) (sym (ne-eqb (m / 16_777_216) 0 (λ z. omega (arith, z, l)))) ∙ e) in
         let r = both (leb a 127) _ (q .1) in
         (eqb-true _ 1 (q .0), omega (arith, leb-true a 127 (r .0)), eqb-true _ 2 (r .1))
 
@@ -198,14 +199,16 @@ module _ (l : List ℕ) (free : FrontFree l) (m a b n : ℕ) (out : Outside m a 
   -- F6
   pub tune-ends : b ≡ 0xF6 → r ≡ numbersOf n false (maybe.Some (report.Common y.TuneRequest)) → later ≡ putWaiting 0 a l → Answers e store b n r later store
   tune-ends is t q =
-      answers-by k.Tune e store b n r later store (class-is b k.Tune is) (record { state = cleared e; interrupted = false; report = maybe.Some (report.Common y.TuneRequest) }) store refl refl refl t
+      answers-by k.Tune e store b n r later store (class-is b k.Tune is)
+      (record { state = cleared e; interrupted = false; report = maybe.Some (report.Common y.TuneRequest) }) store refl refl refl t
       (q ∙ waiting-stored l free s.None 0 a 0 (omega arith) (omega arith) refl) refl
 
   module _ (low : b < 0x80) (h : m ≡ 0 → ⊥) where
     f : Force m a (getD l 13 0)
     f = force m a (getD l 13 0) out h
 
-    whole : (x z : ℕ) (w : MaybeReport) → record { state = completed (statusIn m) x z; interrupted = false; report = w } ≡ collect (s.Status (statusIn m)) (closed-of (s.Status (statusIn m)) (m / 16_777_216) a (getD l 13 0)) b
+    whole : (x z : ℕ) (w : MaybeReport) → record { state = completed (statusIn m) x z; interrupted = false; report = w } ≡ collect
+        (s.Status (statusIn m)) (closed-of (s.Status (statusIn m)) (m / 16_777_216) a (getD l 13 0)) b
         → someReport w ≡ true → r ≡ numbersOf n false w → later ≡ encoded (completed (statusIn m) x z) → Answers e store b n r later store
     whole x z w c some t q =
         let eqs = data-plain e store b refl in
@@ -213,7 +216,8 @@ module _ (l : List ℕ) (free : FrontFree l) (m a b n : ℕ) (out : Outside m a 
         (c ∙ ap (λ (d : Decoder). collect (d .status) d b) (sym (f .is)) ∙ sym (eqs .0)) (sym (eqs .1)) some t q refl
 
     -- the second data byte, under the number v of its status
-    pub second-ends : 16_777_216 ≤ m → (v : ℕ) → v ≡ statusIn m → r ≡ numbersOf n false (messageReport v a b) → later ≡ encoded (completed v a b) → Answers e store b n r later store
+    pub second-ends : 16_777_216 ≤ m → (v : ℕ) → v ≡ statusIn m → r ≡ numbersOf n false (messageReport v a b) → later ≡ encoded (completed v a b) →
+        Answers e store b n r later store
     second-ends p v is t q =
         let x = f .pending p in
         whole a b (messageReport (statusIn m) a b) (rw (ne-eqb (m / 16_777_216) 0 (λ z. omega (arith, z, x .0))) refl)
@@ -221,7 +225,8 @@ module _ (l : List ℕ) (free : FrontFree l) (m a b n : ℕ) (out : Outside m a 
         (t ∙ ap (λ (y : ℕ). numbersOf n false (messageReport y a b)) is) (q ∙ ap (λ (y : ℕ). encoded (completed y a b)) is)
 
     -- the only one
-    pub only-ends : Under m 1 → r ≡ numbersOf n false (messageReport (statusIn m) b 0) → later ≡ encoded (completed (statusIn m) b (getD l 13 0)) → Answers e store b n r later store
+    pub only-ends : Under m 1 → r ≡ numbersOf n false (messageReport (statusIn m) b 0) → later ≡ encoded (completed (statusIn m) b (getD l 13 0)) →
+        Answers e store b n r later store
     only-ends under t q =
         let one = under .1 in
         whole b (getD l 13 0) (messageReport (statusIn m) b 0) (rw (eq-eqb (m / 16_777_216) 0 (omega (arith, under .0)), one) refl)

@@ -73,7 +73,8 @@ by-number (s.Status x) h a z w =
     status-known x h a z (waitingNumber (closed-of (s.Status x) h a z)) (omega (arith, r .1)) (few (p .1)) (omega arith)
   where
     few : (eqb h 0 || (eqb h 1 && (leb a 127 && eqb (dataLength x) 2))) ≡ true → h < 256
-    few e = split (eqb h 0) (λ t. omega (arith, eqb-true h 0 t)) (λ t. omega (arith, eqb-true h 1 (both (eqb h 1) _ (ap (λ (u : Bool). u || (eqb h 1 && (leb a 127 && eqb (dataLength x) 2))) (sym t) ∙ e) .0)))
+    few e = split (eqb h 0) (λ t. omega (arith, eqb-true h 0 t))
+        (λ t. omega (arith, eqb-true h 1 (both (eqb h 1) _ (ap (λ (u : Bool). u || (eqb h 1 && (leb a 127 && eqb (dataLength x) 2))) (sym t) ∙ e) .0)))
 
 closed-begins : (m a : ℕ) (l store bytes : List ℕ) → l ≡ encoded (stateOf l) → length l ≡ 14 → sound (stateOf l) ≡ true → m ≡ waitingNumber (stateOf l) → a ≡ stateOf l .data0
     → stateOf l .in_sysex ≡ false → Closed (walk (stateOf l) store bytes) bytes l store m a 0
@@ -154,7 +155,8 @@ waiting-length w a l = simp length-set refl
 
 module _ (w : Walked) (state₀ store₀ bytes state store : List ℕ) (at m a i : ℕ) (r : Reached w state₀ store₀ bytes state store at m a i) where
   -- in a frame, the rest by another function
-  pub open-ends : (at ≡ 0 → ⊥) → (x : FedAnswer) (later left : List ℕ) → Numbered (further i (walk (openState at state) store (drop i bytes))) x later left → Numbered w x later left
+  pub open-ends : (at ≡ 0 → ⊥) → (x : FedAnswer) (later left : List ℕ) → Numbered (further i (walk (openState at state) store (drop i bytes))) x later
+      left → Numbered w x later left
   open-ends n x later left z = on-other w bytes (openState at state) store i (r .inside n .on) x later left z
 
   module _ (none : at ≡ 0) where
@@ -164,7 +166,8 @@ module _ (w : Walked) (state₀ store₀ bytes state store : List ℕ) (at m a i
     z : ℕ
     z = getD state 13 0
 
-    still : (m' a' j : ℕ) → j ≤ length bytes → Outside m' a' (getD state 13 0) → On w bytes (closedBy m' a' (getD state 13 0)) store j → Reached w state₀ store₀ bytes state store at m' a' j
+    still : (m' a' j : ℕ) → j ≤ length bytes → Outside m' a' (getD state 13 0) → On w bytes (closedBy m' a' (getD state 13 0)) store j → Reached w
+        state₀ store₀ bytes state store at m' a' j
     still m' a' j within numbers on =
         record {
           within = within;
@@ -177,7 +180,8 @@ module _ (w : Walked) (state₀ store₀ bytes state store : List ℕ) (at m a i
         }
 
     -- no byte is left
-    pub outside-ends : i ≡ length bytes → (x : FedAnswer) (later left : List ℕ) → x ≡ numbersOf i false o.None → later ≡ putWaiting m a state → left ≡ store → Numbered w x later left
+    pub outside-ends : i ≡ length bytes → (x : FedAnswer) (later left : List ℕ) → x ≡ numbersOf i false o.None → later ≡ putWaiting m a state → left ≡
+        store → Numbered w x later left
     outside-ends e x later left t q l =
         on-ends w bytes (closedBy m a (getD state 13 0)) store i (here .on) e x later left t (q ∙ outside-stored state (here .free) m a (here .numbers)) l
 
@@ -186,17 +190,20 @@ module _ (w : Walked) (state₀ store₀ bytes state store : List ℕ) (at m a i
       b = getD bytes i 0
 
       -- a byte that reports
-      pub outside-answers : (x : FedAnswer) (later left : List ℕ) → left ≡ store → Answers (closedBy m a (getD state 13 0)) store (getD bytes i 0) (i + 1) x later store → Numbered w x later left
+      pub outside-answers : (x : FedAnswer) (later left : List ℕ) → left ≡ store → Answers (closedBy m a (getD state 13 0)) store (getD bytes i 0)
+          (i + 1) x later store → Numbered w x later left
       outside-answers x later left l q =
           subst (λ (y : List ℕ). Numbered w x later y) (sym l) (on-answers w bytes (closedBy m a (getD state 13 0)) store i (here .on) more x later store q)
 
-      pub outside-realtime : getD bytes i 0 < 256 → isRealtime (getD bytes i 0) ≡ true → (x : FedAnswer) (later left : List ℕ) → x ≡ numbersOf (i + 1) false (realtimeReport (realtimeOf (getD bytes i 0)))
+      pub outside-realtime : getD bytes i 0 < 256 → isRealtime (getD bytes i 0) ≡ true → (x : FedAnswer) (later left : List ℕ) → x ≡ numbersOf (i + 1)
+          false (realtimeReport (realtimeOf (getD bytes i 0)))
           → later ≡ putWaiting m a state → left ≡ store → Numbered w x later left
       outside-realtime small named x later left t q l =
           outside-answers x later left l
           (realtime-answers (closedBy m a (getD state 13 0)) store (getD bytes i 0) (i + 1) x later store small named t (q ∙ outside-stored state (here .free) m a (here .numbers)) refl)
 
-      pub outside-tune : getD bytes i 0 ≡ 0xF6 → (x : FedAnswer) (later left : List ℕ) → x ≡ numbersOf (i + 1) false (o.Some (report.Common y.TuneRequest)) → later ≡ putWaiting 0 a state
+      pub outside-tune : getD bytes i 0 ≡ 0xF6 → (x : FedAnswer) (later left : List ℕ) → x ≡ numbersOf (i + 1) false
+          (o.Some (report.Common y.TuneRequest)) → later ≡ putWaiting 0 a state
           → left ≡ store → Numbered w x later left
       outside-tune is x later left t q l =
           outside-answers x later left l (tune-ends state (here .free) m a (getD bytes i 0) (i + 1) (here .numbers) x later store is t q)
@@ -219,7 +226,8 @@ module _ (w : Walked) (state₀ store₀ bytes state store : List ℕ) (at m a i
           let d = closedBy m a (getD state 13 0) in
           let nothing : closedBy m a (getD state 13 0) .status ≡ s.None = rw (eq-eqb m 0 e) in
           let eqs = data-plain d store (getD bytes i 0) refl in
-          let q = step-by k.Data d store (getD bytes i 0) (class-is (getD bytes i 0) k.Data low) (silent d) store (ap (λ (v : RunningStatus). collect v d (getD bytes i 0)) (sym nothing) ∙ sym (eqs .0)) (sym (eqs .1)) in
+          let q = step-by k.Data d store (getD bytes i 0) (class-is (getD bytes i 0) k.Data low) (silent d) store
+          (ap (λ (v : RunningStatus). collect v d (getD bytes i 0)) (sym nothing) ∙ sym (eqs .0)) (sym (eqs .1)) in
           let one = on-quiet w bytes d store i (here .on) more d store (q .0) (q .1) in
           let all = on-stray w bytes d store (i + 1) one refl nothing (skipped .count) (skipped .run) in
           let there = subst (λ (n : ℕ). On w bytes d store n) (sym (skipped .place)) all in
@@ -232,7 +240,8 @@ module _ (w : Walked) (state₀ store₀ bytes state store : List ℕ) (at m a i
           let s = start-opens m a (getD state 13 0) (getD bytes i 0) store (here .numbers) is in
           let long : length state' ≡ length state = ap length p ∙ waiting-length 0 a state in
           let kept : length store' ≡ length store = ap length q ∙ length-set store 0 (getD bytes i 0) in
-          let on = on-quiet w bytes (closedBy m a (getD state 13 0)) store i (here .on) more (opened (closedBy m a (getD state 13 0))) (set store 0 (getD bytes i 0)) (s .0) (s .1) in
+          let on = on-quiet w bytes (closedBy m a (getD state 13 0)) store i (here .on) more (opened (closedBy m a (getD state 13 0)))
+          (set store 0 (getD bytes i 0)) (s .0) (s .1) in
           record {
             within = omega arith;
             room = omega (arith, kept, r .room);

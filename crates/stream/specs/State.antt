@@ -39,7 +39,7 @@ stateLength bytes =
     (getD bytes 1 0 + 256 * getD bytes 2 0 + 65_536 * getD bytes 3 0 + 16_777_216 * getD bytes 4 0)
     + 4_294_967_296 * (getD bytes 5 0 + 256 * getD bytes 6 0 + 65_536 * getD bytes 7 0 + 16_777_216 * getD bytes 8 0)
 
--- and back: a status where the flag is 1
+-- the status that two bytes say: one where the flag is 1
 abbrev pub statusOf : ℕ → ℕ → RunningStatus
 statusOf given b = pick (eqb given 1) (s.Status b) s.None
 

@@ -110,7 +110,7 @@ pub fn then_number(out: &mut [u8], at: usize, n: u64) -> usize {
     crate::put_decimal(out, next, n)
 }
 
-// The same where there is such a detail.
+// A detail with its name, where the refusal has it.
 fn when(out: &mut [u8], at: usize, is_there: bool, n: u64) -> usize {
     if is_there {
         return then_number(out, at, n);

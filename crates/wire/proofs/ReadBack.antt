@@ -43,7 +43,8 @@ pub channel-reads-back : (c : ℕ) (m : ChannelMessage) → c < 16 → messageIn
     → channelMessage (statusNibble m + c) (getD (dataBytes m) 0 0) (getD (dataBytes m) 1 0) ≡ o.Some m
 channel-reads-back c (m.NoteOff a b) h r = let d = both-small a b r in rw (kind 0x8 c h) (ap₂ (λ (x y : ℕ). o.Some (m.NoteOff x y)) (seven a (d .0)) (seven b (d .1)))
 channel-reads-back c (m.NoteOn a b) h r = let d = both-small a b r in rw (kind 0x9 c h) (ap₂ (λ (x y : ℕ). o.Some (m.NoteOn x y)) (seven a (d .0)) (seven b (d .1)))
-channel-reads-back c (m.PolyKeyPressure a b) h r = let d = both-small a b r in rw (kind 0xA c h) (ap₂ (λ (x y : ℕ). o.Some (m.PolyKeyPressure x y)) (seven a (d .0)) (seven b (d .1)))
+channel-reads-back c (m.PolyKeyPressure a b) h r = let d = both-small a b r in rw (kind 0xA c h)
+    (ap₂ (λ (x y : ℕ). o.Some (m.PolyKeyPressure x y)) (seven a (d .0)) (seven b (d .1)))
 channel-reads-back c (m.ControlChange a b) h r = let d = both-small a b r in rw (kind 0xB c h) (ap₂ (λ (x y : ℕ). o.Some (m.ControlChange x y)) (seven a (d .0)) (seven b (d .1)))
 channel-reads-back c (m.ProgramChange a) h r = rw (kind 0xC c h) (ap (λ (x : ℕ). o.Some (m.ProgramChange x)) (seven a (leb-true a 127 r)))
 channel-reads-back c (m.ChannelPressure a) h r = rw (kind 0xD c h) (ap (λ (x : ℕ). o.Some (m.ChannelPressure x)) (seven a (leb-true a 127 r)))

@@ -22,7 +22,7 @@ commonStatus b =
     (pick (eqb b 0xF3) (o.Some s.SongSelect)
     (pick (eqb b 0xF6) (o.Some s.TuneRequest) o.None)))
 
--- and back: the byte of each
+-- the status byte of each kind
 abbrev pub commonStatusByte : CommonStatus → ℕ
 commonStatusByte s.TimeCodeQuarterFrame = 0xF1
 commonStatusByte s.SongPosition = 0xF2

@@ -56,8 +56,7 @@ impl Channel {
     pub fn index(self) -> u8
         ensures { λ r. ⌜ r ≡ self .0 ⌝ }
     {
-        let channel = self.0;
-        channel
+        self.0
     }
 
     // The number on the front panel, 1 to 16.
@@ -117,7 +116,7 @@ pub fn put(out: &mut [u8], count: usize, a: u8, b: u8, d: u8) -> Count
     put_some(out, 3, a, b, d)
 }
 
-// The same for one to three of them.
+// One to three bytes, to the front of a buffer; 14 where they do not fit.
 fn put_some(out: &mut [u8], needed: usize, a: u8, b: u8, d: u8) -> Count
     requires { ⌜ (1 ≤ needed) × (needed ≤ 3) ⌝ }
     ensures { λ r. ⌜ Writes (withRoom (length (now (out .entry))) (take needed (a ∷ b ∷ d ∷ []))) r (now (out .entry)) (now (out .exit)) ⌝ }

@@ -79,7 +79,9 @@ numbered-off c v p h = split (optional c) (λ e. at-pattern (sym (optional-is c 
   where
     at-pattern : {j : Command} → k.UserPatternDumpResponse ≡ j → accepted (rawLengthFor j v) (length p - prefixLength j) ≡ true
         → readFields j (numberedBy (length p)) p ≡ readFields j false p
-    at-pattern e = subst (λ (j : Command). accepted (rawLengthFor j v) (length p - prefixLength j) ≡ true → readFields j (numberedBy (length p)) p ≡ readFields j false p) e (λ g. rw g)
+    at-pattern e = subst
+        (λ (j : Command). accepted (rawLengthFor j v) (length p - prefixLength j) ≡ true → readFields j (numberedBy (length p)) p ≡ readFields j false p)
+        e (λ g. rw g)
 
 -- a run of any length is the calibration's
 any-is : (c : Command) → isAny (payloadOf c .run) ≡ eqb (codeOf c) 0x12

@@ -86,25 +86,41 @@ enum-known-fields : tie.Need-enum-known-fields
 enum-known-fields c = search needs
 
 returns-3 : tie.Need-returns-3
-returns-3 c = let b = c .before .before .before .before .before .before .before .before .before in
-    rw (le-leb 8 _ (b .if1 .left), sym (c .before .before .before .before .before .before .same-bytes .ensures) ∙ not-false _ (c .before .before .before .before .before .if2 .left), ← c .before .before .before .from-byte .ensures, c .before .e .given .1)
+returns-3 c =
+    let same-bytes = c .before .before .before .before .before .before .same-bytes in
+    let if2 = c .before .before .before .before .before .if2 in
+    let from-byte = c .before .before .before .from-byte in
+    let b = c .before .before .before .before .before .before .before .before .before in
+    rw (le-leb 8 _ (b .if1 .left), sym (same-bytes .ensures) ∙ not-false _ (if2 .left), ← from-byte .ensures, c .before .e .given .1)
 
 returns-4 : tie.Need-returns-4
-returns-4 c = let d = c .before .before .before .before .before .before .before .before in
+returns-4 c =
+    let device = c .before .before .before .before .before .before .device in
+    let from-byte2 = c .before .before .before .from-byte2 in
+    let d = c .before .before .before .before .before .before .before .before in
     let b = d .before .before .before .before .before .before in
-    rw (le-leb 8 _ (b .if1 .left), sym (d .before .before .before .same-bytes .ensures) ∙ not-false _ (d .before .before .if2 .left), ← d .from-byte .ensures, c .before .before .before .before .before .before .device .given .1, ← c .before .before .before .from-byte2 .ensures, c .before .e2 .given .1)
+    rw
+    (le-leb 8 _ (b .if1 .left), sym (d .before .before .before .same-bytes .ensures) ∙ not-false _ (d .before .before .if2 .left), ← d .from-byte .ensures, device .given .1, ← from-byte2 .ensures, c .before .e2 .given .1)
 
 returns-5 : tie.Need-returns-5
-returns-5 c = let k = c .before .before .before .before .before .before .before .before in
+returns-5 c =
+    let command = c .before .before .before .before .before .before .command in
+    let read-payload = c .before .before .before .read-payload in
+    let k = c .before .before .before .before .before .before .before .before in
     let d = k .before .before .before .before .before in
     let b = d .before .before .before .before .before .before in
-    rw (le-leb 8 _ (b .if1 .left), sym (d .before .before .before .same-bytes .ensures) ∙ not-false _ (d .before .before .if2 .left), ← d .from-byte .ensures, k .before .before .before .device .given .1, ← k .from-byte2 .ensures, c .before .before .before .before .before .before .command .given .1, ← payload-part (b .before .before .args .bytes .now), ← c .before .before .before .read-payload .ensures, c .before .e3 .given .1)
+    rw
+    (le-leb 8 _ (b .if1 .left), sym (d .before .before .before .same-bytes .ensures) ∙ not-false _ (d .before .before .if2 .left), ← d .from-byte .ensures, k .before .before .before .device .given .1, ← k .from-byte2 .ensures, command .given .1, ← payload-part (b .before .before .args .bytes .now), ← read-payload .ensures, c .before .e3 .given .1)
 
 returns-6 : tie.Need-returns-6
-returns-6 c = let k = c .before .before .before .before .before .before .before .before in
+returns-6 c =
+    let command = c .before .before .before .before .before .before .command in
+    let read-payload = c .before .before .before .read-payload in
+    let k = c .before .before .before .before .before .before .before .before in
     let d = k .before .before .before .before .before in
     let b = d .before .before .before .before .before .before in
-    rw (le-leb 8 _ (b .if1 .left), sym (d .before .before .before .same-bytes .ensures) ∙ not-false _ (d .before .before .if2 .left), ← d .from-byte .ensures, k .before .before .before .device .given .1, ← k .from-byte2 .ensures, c .before .before .before .before .before .before .command .given .1, ← payload-part (b .before .before .args .bytes .now), ← c .before .before .before .read-payload .ensures, c .before .fields .given .1)
+    rw
+    (le-leb 8 _ (b .if1 .left), sym (d .before .before .before .same-bytes .ensures) ∙ not-false _ (d .before .before .if2 .left), ← d .from-byte .ensures, k .before .before .before .device .given .1, ← k .from-byte2 .ensures, command .given .1, ← payload-part (b .before .before .args .bytes .now), ← read-payload .ensures, c .before .fields .given .1)
 
 pub read-header-spec : {M : Type 1} → statement M
 read-header-spec =

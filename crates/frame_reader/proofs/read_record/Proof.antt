@@ -44,14 +44,24 @@ read-header-requires c κs = search needs
 
 returns-2 : tie.Need-returns-2
 unfolding readRecord
-returns-2 c = let b = c .before .before .before .before .before .before .before .before .args .bytes .now in
-    rw (sym (c .before .before .before .before .before .before .is-framed .ensures) ∙ not-false _ (c .before .before .before .before .before .if1 .left), ← body-part b, ← c .before .before .before .first-high .ensures, c .before .byte .given .1)
+returns-2 c =
+    let a = c .before .before .before .before .before .before .before .before .args in
+    let is-framed = c .before .before .before .before .before .before .is-framed in
+    let if1 = c .before .before .before .before .before .if1 in
+    let first-high = c .before .before .before .first-high in
+    let b = a .bytes .now in
+    rw (sym (is-framed .ensures) ∙ not-false _ (if1 .left), ← body-part b, ← first-high .ensures, c .before .byte .given .1)
 
 returns-3 : tie.Need-returns-3
 unfolding readRecord
-returns-3 c = let b = c .before .before .before .before .before .before .before .before .args .bytes .now in
+returns-3 c =
+    let a = c .before .before .before .before .before .before .before .before .args in
+    let is-framed = c .before .before .before .before .before .before .is-framed in
+    let if1 = c .before .before .before .before .before .if1 in
+    let first-high = c .before .before .before .first-high in
+    let b = a .bytes .now in
     c .read-header .ensures
-    ∙ rw (sym (c .before .before .before .before .before .before .is-framed .ensures) ∙ not-false _ (c .before .before .before .before .before .if1 .left), ← body-part b, ← c .before .before .before .first-high .ensures, c .before .enum-told .given .1)
+    ∙ rw (sym (is-framed .ensures) ∙ not-false _ (if1 .left), ← body-part b, ← first-high .ensures, c .before .enum-told .given .1)
 
 pub read-record-spec : {M : Type 1} → statement M
 read-record-spec =

@@ -11,21 +11,6 @@ use Rattle.frame_writer.proofs.put_frame.Tie as tie
 put-header-requires : tie.Need-put-header-requires
 put-header-requires c κs = search needs
 
-sub-put-prefix : tie.Need-sub-put-prefix
-sub-put-prefix c = search needs
-
-part-put-prefix-start : tie.Need-part-put-prefix-start
-part-put-prefix-start c = search needs
-
-part-put-prefix-end : tie.Need-part-put-prefix-end
-part-put-prefix-end c = search needs
-
-put-prefix-requires : tie.Need-put-prefix-requires
-put-prefix-requires c κs = search needs
-
-add-at : tie.Need-add-at
-add-at c = search needs
-
 sub-copy-into : tie.Need-sub-copy-into
 sub-copy-into c = search needs
 
@@ -38,6 +23,21 @@ part-copy-into-end c = search needs
 copy-into-requires : tie.Need-copy-into-requires
 copy-into-requires c κs = search needs
 
+add-at : tie.Need-add-at
+add-at c = search needs
+
+sub-copy-into-2 : tie.Need-sub-copy-into-2
+sub-copy-into-2 c = search needs
+
+part-copy-into-start-2 : tie.Need-part-copy-into-start-2
+part-copy-into-start-2 c = search needs
+
+part-copy-into-end-2 : tie.Need-part-copy-into-end-2
+part-copy-into-end-2 c = search needs
+
+copy-into-requires-2 : tie.Need-copy-into-requires-2
+copy-into-requires-2 c κs = search needs
+
 add-end : tie.Need-add-end
 add-end c = search needs
 
@@ -48,32 +48,34 @@ same-length : tie.Need-same-length
 same-length c = let w = c .before .before .before .before .before .before .before .before .before .before in
     let a = w .before .before .before .before .before .args in
     let s = w .put-header .last .1 .1 .0 in
-    let n = c .before .before .before .before .before .before .put-prefix in
-    let m = c .before .before .copy-into in
-    simp length-set (length-run (header (a .device) (a .code)) (a .prefix .now) (a .run .now) (a .out .now) s (n .last .1 .0) (m .last .1 .0) refl (w .before .before .before .before .before .pre .1) (w .put-header .ensures) (n .ensures) _ refl (m .ensures))
+    let n = c .before .before .before .before .before .before .copy-into in
+    let m = c .before .before .copy-into2 in
+    simp length-set
+    (length-run (header (a .device) (a .code)) (a .prefix .now) (a .run .now) (a .out .now) s (n .last .1 .0) (m .last .1 .0) refl (w .before .before .before .before .before .pre) (w .put-header .ensures) (n .ensures) _ refl (m .ensures))
 
 returns : tie.Need-returns
 returns c = let w = c .before .before .before .before .before .before .before .before .before .before in
     let a = w .before .before .before .before .before .args in
     let s = w .put-header .last .1 .1 .0 in
-    let n = c .before .before .before .before .before .before .put-prefix in
-    let m = c .before .before .copy-into in
-    frame-put (header (a .device) (a .code)) (a .prefix .now) (a .run .now) (a .out .now) s (n .last .1 .0) (m .last .1 .0) refl (w .before .before .before .before .before .pre .1) (w .put-header .ensures) (n .ensures) _ refl (m .ensures)
+    let n = c .before .before .before .before .before .before .copy-into in
+    let m = c .before .before .copy-into2 in
+    frame-put (header (a .device) (a .code)) (a .prefix .now) (a .run .now) (a .out .now) s (n .last .1 .0) (m .last .1 .0) refl
+    (w .before .before .before .before .before .pre) (w .put-header .ensures) (n .ensures) _ refl (m .ensures)
 
 pub put-frame-spec : {M : Type 1} → statement M
 put-frame-spec =
     tie.close
     (tie.spec
     put-header-requires
-    sub-put-prefix
-    part-put-prefix-start
-    part-put-prefix-end
-    put-prefix-requires
-    add-at
     sub-copy-into
     part-copy-into-start
     part-copy-into-end
     copy-into-requires
+    add-at
+    sub-copy-into-2
+    part-copy-into-start-2
+    part-copy-into-end-2
+    copy-into-requires-2
     add-end
     slice-write-out
     same-length

@@ -40,26 +40,40 @@ add-t22 : tie.Need-add-t22
 add-t22 c = search needs
 
 returns : tie.Need-returns
-returns c = let a = c .before .before .before .before .before .before .before .args in
+returns c =
+    let first-high = c .before .before .before .first-high in
+    let a = c .before .before .before .before .before .before .before .args in
     let b = c .before .byte .given in
-    seven-refused (a .device) (a .command) (a .prefix .now) (a .run .now) (a .out .now) (b .0 .0) (high-first (a .prefix .now) (a .run .now) (b .0 .0) (sym (c .before .before .before .first-high .ensures) ∙ b .1))
+    seven-refused (a .device) (a .command) (a .prefix .now) (a .run .now) (a .out .now) (b .0 .0)
+    (high-first (a .prefix .now) (a .run .now) (b .0 .0) (sym (first-high .ensures) ∙ b .1))
 
 returns-2 : tie.Need-returns-2
-returns-2 c = let a = c .before .before .before .before .before .before .before .before .before .before .args in
+returns-2 c =
+    let first-high = c .before .before .before .before .before .before .first-high in
+    let enum-told-there = c .before .before .before .before .enum-told in
+    let first-high2 = c .before .before .before .first-high2 in
+    let a = c .before .before .before .before .before .before .before .before .before .before .args in
     let b = c .before .byte2 .given in
-    let none = sym (c .before .before .before .before .before .before .first-high .ensures) ∙ c .before .before .before .before .enum-told .given .1 in
-    seven-refused (a .device) (a .command) (a .prefix .now) (a .run .now) (a .out .now) (b .0 .0) (high-append (a .prefix .now) (a .run .now) none ∙ sym (c .before .before .before .first-high2 .ensures) ∙ b .1)
+    let none = sym (first-high .ensures) ∙ enum-told-there .given .1 in
+    seven-refused (a .device) (a .command) (a .prefix .now) (a .run .now) (a .out .now) (b .0 .0)
+    (high-append (a .prefix .now) (a .run .now) none ∙ sym (first-high2 .ensures) ∙ b .1)
 
 same-length : tie.Need-same-length
 same-length c = search needs
 
 returns-3 : tie.Need-returns-3
-returns-3 c = let w = c .before .before .before .before .before .before .before .before in
+returns-3 c =
+    let enum-told2 = c .before .before .before .before .before .before .enum-told2 in
+    let to-byte = c .before .before .before .before .before .to-byte in
+    let to-byte2 = c .before .before .before .before .to-byte2 in
+    let put-frame = c .before .before .put-frame in
+    let w = c .before .before .before .before .before .before .before .before in
     let v = w .before .before .before in
     let a = v .before .before .before .before .args in
     let none = sym (v .first-high .ensures) ∙ w .before .enum-told .given .1 in
-    seven-written (a .device) (a .command) (a .prefix .now) (a .run .now) (a .out .now) _ _ (high-append (a .prefix .now) (a .run .now) none ∙ sym (w .first-high2 .ensures) ∙ c .before .before .before .before .before .before .enum-told2 .given .1) refl
-    (rw (c .before .before .before .before .before .to-byte .ensures, c .before .before .before .before .to-byte2 .ensures) at (c .before .before .put-frame .ensures))
+    seven-written (a .device) (a .command) (a .prefix .now) (a .run .now) (a .out .now) _ _
+    (high-append (a .prefix .now) (a .run .now) none ∙ sym (w .first-high2 .ensures) ∙ enum-told2 .given .1) refl
+    (rw (to-byte .ensures, to-byte2 .ensures) at (put-frame .ensures))
 
 pub put-seven-bit-spec : {M : Type 1} → statement M
 put-seven-bit-spec =

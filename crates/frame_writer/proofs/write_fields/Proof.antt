@@ -37,11 +37,17 @@ enum-known-needed : tie.Need-enum-known-needed
 enum-known-needed c = search needs
 
 returns : tie.Need-returns
-returns c = let v = c .before .before .before .before .before .before .before .before in
+returns c =
+    let enum-told-there = c .before .before .before .before .before .before .enum-told in
+    let needed = c .before .before .needed in
+    let prefix-of = c .before .before .before .before .before .prefix-of in
+    let frame-len = c .before .before .before .before .frame-len in
+    let v = c .before .before .before .before .before .before .before .before in
     let a = v .before .before .before .args in
-    let o = c .before .before .before .before .before .before .enum-told .given in
-    let n = c .before .before .needed .given in
-    fields-no-room (a .device) (a .command) (a .fields) (o .0 .0) (a .run .now) (a .out .now) (n .0 .0) _ (ap fieldsTold (sym (o .1)) ∙ v .check .ensures) (c .before .before .before .before .before .prefix-of .ensures .long) (ap counted (sym (n .1)) ∙ c .before .before .before .before .frame-len .ensures) (c .if1 .taken)
+    let o = enum-told-there .given in
+    let n = needed .given in
+    fields-no-room (a .device) (a .command) (a .fields) (o .0 .0) (a .run .now) (a .out .now) (n .0 .0) _
+    (ap fieldsTold (sym (o .1)) ∙ v .check .ensures) (prefix-of .ensures .long) (ap counted (sym (n .1)) ∙ frame-len .ensures) (c .if1 .taken)
 
 own-len-requires : tie.Need-own-len-requires
 own-len-requires c κs = search needs
@@ -49,12 +55,14 @@ own-len-requires c κs = search needs
 array-share-prefix-bytes : tie.Need-array-share-prefix-bytes
 array-share-prefix-bytes c = let p = c .before .before .before .before .before .before .before in
     let a = p .before .before .before .before .before .before .args in
-    omega (arith, p .prefix-of .ensures .long, prefix-small (a .command) (a .fields), padded-length (prefixOf (a .command) (a .fields)) (p .prefix-of .result .bytes) (p .prefix-of .result .len) (prefix-small (a .command) (a .fields)) (p .prefix-of .ensures))
+    omega
+    (arith, p .prefix-of .ensures .long, prefix-small (a .command) (a .fields), padded-length (prefixOf (a .command) (a .fields)) (p .prefix-of .result .bytes) (p .prefix-of .result .len) (prefix-small (a .command) (a .fields)) (p .prefix-of .ensures))
 
 slice-aggregate-put-seven-bit : tie.Need-slice-aggregate-put-seven-bit
 slice-aggregate-put-seven-bit c = let p = c .before .before .before .before .before .before .before .before in
     let a = p .before .before .before .before .before .before .args in
-    p .prefix-of .ensures .long ∙ ap length (sym (padded-front (prefixOf (a .command) (a .fields)) (p .prefix-of .result .bytes) (p .prefix-of .result .len) (p .prefix-of .ensures)))
+    p .prefix-of .ensures .long ∙ ap length
+    (sym (padded-front (prefixOf (a .command) (a .fields)) (p .prefix-of .result .bytes) (p .prefix-of .result .len) (p .prefix-of .ensures)))
 
 slice-aggregate-put-seven-bit-2 : tie.Need-slice-aggregate-put-seven-bit-2
 slice-aggregate-put-seven-bit-2 c = let a = c .before .before .before .before .before .before .before .before .before .before .before .before .before .before .before .args in
@@ -62,7 +70,9 @@ slice-aggregate-put-seven-bit-2 c = let a = c .before .before .before .before .b
     sym (length-take-le (n .result) (a .run .now) (own-within (a .command) (a .run .now) (n .result) (n .ensures)))
 
 put-seven-bit-requires : tie.Need-put-seven-bit-requires
-put-seven-bit-requires c κs = let w = c .before .before .before .before .before .before .before in
+put-seven-bit-requires c κs =
+    let if1 = c .before .before .before .before .before .if1 in
+    let w = c .before .before .before .before .before .before .before in
     let p = w .before .before .before .prefix-of in
     let a = w .before .before .before .before .before .before .before .before .before .args in
     let n = w .needed .given in
@@ -70,32 +80,40 @@ put-seven-bit-requires c κs = let w = c .before .before .before .before .before
     let need = needed-own (a .command) (p .result .len) (length (a .run .now)) (n .0 .0) (ap counted (sym (n .1)) ∙ w .before .before .frame-len .ensures) in
     let front = ap length (padded-front (prefixOf (a .command) (a .fields)) (p .result .bytes) (p .result .len) (p .ensures)) in
     let run = length-take-le (o .result) (a .run .now) (own-within (a .command) (a .run .now) (o .result) (o .ensures)) in
-    (omega (arith, front, p .ensures .long, prefix-small (a .command) (a .fields)), omega (arith, need, front, run, o .ensures, p .ensures .long, c .before .before .before .before .before .if1 .left))
+    omega (arith, need, front, run, o .ensures, p .ensures .long, if1 .left)
 
 returns-2 : tie.Need-returns-2
 returns-2 c = refused-first _ _ (c .before .e .given .0 .0) _ (ap fieldsTold (sym (c .before .e .given .1)) ∙ c .before .before .before .check .ensures)
 
 returns-3 : tie.Need-returns-3
-returns-3 c = let v = c .before .before .before .before .before .before .before in
+returns-3 c =
+    let enum-told-there = c .before .before .before .before .before .enum-told in
+    let frame-len = c .before .before .before .frame-len in
+    let prefix-of = c .before .before .before .before .prefix-of in
+    let v = c .before .before .before .before .before .before .before in
     let a = v .before .before .before .args in
-    let o = c .before .before .before .before .before .enum-told .given in
+    let o = enum-told-there .given in
     counted-first (checkedFields (a .command) (a .fields)) _ (o .0 .0) _ _ _ (ap fieldsTold (sym (o .1)) ∙ v .check .ensures)
-    (refused-first _ _ (c .before .e2 .given .0 .0) _ (ap counted (sym (c .before .e2 .given .1)) ∙ c .before .before .before .frame-len .ensures ∙ ap (λ (l : ℕ). lengthFor (a .command) l (length (a .run .now))) (c .before .before .before .before .prefix-of .ensures .long)))
+    (refused-first _ _ (c .before .e2 .given .0 .0) _ (ap counted (sym (c .before .e2 .given .1)) ∙ frame-len .ensures ∙ ap (λ (l : ℕ). lengthFor (a .command) l (length (a .run .now))) (prefix-of .ensures .long)))
 
 same-length : tie.Need-same-length
 same-length c = search needs
 
 returns-4 : tie.Need-returns-4
-returns-4 c = let w = c .before .before .before .before .before .before .before .before .before .before in
+returns-4 c =
+    let if1 = c .before .before .before .before .before .before .before .before .if1 in
+    let put-seven-bit = c .before .before .put-seven-bit in
+    let w = c .before .before .before .before .before .before .before .before .before .before in
     let p = w .before .before .before .prefix-of in
     let v = w .before .before .before .before .before .before in
     let a = v .before .before .before .args in
     let o = w .before .before .before .before .enum-told .given in
     let n = w .needed .given in
     let own = c .before .before .before .before .before .before .own-len in
-    fields-written (a .device) (a .command) (a .fields) (o .0 .0) (a .run .now) (a .out .now) (n .0 .0) _ (ap fieldsTold (sym (o .1)) ∙ v .check .ensures) (p .ensures .long) (ap counted (sym (n .1)) ∙ w .before .before .frame-len .ensures)
-    _ _ _ _ (c .before .before .before .before .before .before .before .before .if1 .left) (padded-front (prefixOf (a .command) (a .fields)) (p .result .bytes) (p .result .len) (p .ensures))
-    (own-front (a .command) (a .run .now) (own .result) (own .ensures)) (c .before .before .put-seven-bit .ensures)
+    fields-written (a .device) (a .command) (a .fields) (o .0 .0) (a .run .now) (a .out .now) (n .0 .0) _
+    (ap fieldsTold (sym (o .1)) ∙ v .check .ensures) (p .ensures .long) (ap counted (sym (n .1)) ∙ w .before .before .frame-len .ensures)
+    _ _ _ _ (if1 .left) (padded-front (prefixOf (a .command) (a .fields)) (p .result .bytes) (p .result .len) (p .ensures))
+    (own-front (a .command) (a .run .now) (own .result) (own .ensures)) (put-seven-bit .ensures)
 
 pub write-fields-spec : {M : Type 1} → statement M
 write-fields-spec =

@@ -35,11 +35,13 @@ write-fields-requires : tie.Need-write-fields-requires
 write-fields-requires c κs = search needs
 
 returns-2 : tie.Need-returns-2
-returns-2 c = let b = c .before .before .before .before in
+returns-2 c =
+    let from-byte = c .before .before .before .from-byte in
+    let b = c .before .before .before .before in
     let a = b .before .before .before .before .args in
     let ok : deviceInRange (a .device) ≡ true = sym (b .before .device-in-range .ensures) ∙ not-false _ (b .if1 .left) in
     went-on (deviceInRange (a .device)) 5 (deviceByte (a .device) ∷ []) _ _ (a .out .now) _ ok
-    (refused-first (commandOf (a .command)) _ (c .before .e .given .0 .0) (a .out .now) (ap commandTold (sym (c .before .e .given .1)) ∙ c .before .before .before .from-byte .ensures))
+    (refused-first (commandOf (a .command)) _ (c .before .e .given .0 .0) (a .out .now) (ap commandTold (sym (c .before .e .given .1)) ∙ from-byte .ensures))
 
 same-length : tie.Need-same-length
 same-length c = search needs

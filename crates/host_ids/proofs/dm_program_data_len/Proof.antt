@@ -26,9 +26,13 @@ refused-requires : tie.Need-refused-requires
 refused-requires c κs = search needs
 
 returns : tie.Need-returns
-returns c = let made = c .before .before .before .version .given in
-    number-told (versionOf (c .before .before .before .before .before .before .args .byte)) (λ (x : ProtocolVersion). programDataLength (x .0)) (made .0 .0) (c .before .program-data-len .result) (c .done .result)
-    (ap versionTold (sym (made .1)) ∙ c .before .before .before .before .before .new .ensures) (c .before .program-data-len .ensures) (c .done .ensures)
+returns c =
+    let version = c .before .before .before .version in
+    let a = c .before .before .before .before .before .before .args in
+    let new = c .before .before .before .before .before .new in
+    let made = version .given in
+    number-told (versionOf (a .byte)) (λ (x : ProtocolVersion). programDataLength (x .0)) (made .0 .0) (c .before .program-data-len .result) (c .done .result)
+    (ap versionTold (sym (made .1)) ∙ new .ensures) (c .before .program-data-len .ensures) (c .done .ensures)
 
 returns-2 : tie.Need-returns-2
 returns-2 c = let why = c .before .before .e .given in

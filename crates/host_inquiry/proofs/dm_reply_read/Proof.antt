@@ -43,9 +43,15 @@ refused-requires : tie.Need-refused-requires
 refused-requires c κs = search needs
 
 returns : tie.Need-returns
-returns c = let d = c .before .before .before .before .before .before .before .identity .given in
-    reply-told (readReply (c .before .before .before .before .before .before .before .before .before .before .before .args .bytes .now)) (d .0 .0) (c .before .before .before .before .before .everyone-of .result) (c .before .before .before .before .unit-of .result)
-    (ap identityTold (sym (d .1)) ∙ c .before .before .before .before .before .before .before .before .before .parse-reply .ensures) (c .before .before .before .before .before .everyone-of .ensures) (c .before .before .before .before .unit-of .ensures)
+returns c =
+    let identity = c .before .before .before .before .before .before .before .identity in
+    let a = c .before .before .before .before .before .before .before .before .before .before .before .args in
+    let everyone-of = c .before .before .before .before .before .everyone-of in
+    let unit-of = c .before .before .before .before .unit-of in
+    let parse-reply = c .before .before .before .before .before .before .before .before .before .parse-reply in
+    let d = identity .given in
+    reply-told (readReply (a .bytes .now)) (d .0 .0) (everyone-of .result) (unit-of .result)
+    (ap identityTold (sym (d .1)) ∙ parse-reply .ensures) (everyone-of .ensures) (unit-of .ensures)
 
 returns-2 : tie.Need-returns-2
 returns-2 c = let e = c .before .before .e .given in

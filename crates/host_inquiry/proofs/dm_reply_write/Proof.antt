@@ -24,7 +24,9 @@ no-record-requires c κs = search needs
 
 returns : tie.Need-returns
 returns c = let a = c .before .before .before .args in
-    unnamed-told (leb (a .everyone) 1) (replyWrite (identityFrom (a .everyone) (a .unit) (a .major) (a .minor) (a .voice-major) (a .voice-minor)) (length (a .out .now))) (c .no-record .result) (a .out .now)
+    unnamed-told (leb (a .everyone) 1)
+    (replyWrite (identityFrom (a .everyone) (a .unit) (a .major) (a .minor) (a .voice-major) (a .voice-minor)) (length (a .out .now)))
+    (c .no-record .result) (a .out .now)
     (lt-leb (a .everyone) 1 (c .before .if1 .taken)) (c .no-record .ensures)
 
 device-of-requires : tie.Need-device-of-requires
@@ -40,13 +42,16 @@ same-length : tie.Need-same-length
 same-length c = search needs
 
 returns-2 : tie.Need-returns-2
-returns-2 c = let a = c .before .before .before .before .before .before .before .before .args in
+returns-2 c =
+    let if1 = c .before .before .before .before .before .before .if1 in
+    let device-of = c .before .before .before .before .before .device-of in
+    let a = c .before .before .before .before .before .before .before .before .args in
     let w = c .before .before .before .reply-into in
     let o = replyWrite (identityFrom (a .everyone) (a .unit) (a .major) (a .minor) (a .voice-major) (a .voice-minor)) (length (a .out .now)) in
     named-told (leb (a .everyone) 1) o (c .count .result) (a .out .now) (w .last .1 .0)
-    (le-leb (a .everyone) 1 (omega (arith, c .before .before .before .before .before .before .if1 .left)))
+    (le-leb (a .everyone) 1 (omega (arith, if1 .left)))
     (writer-told o (w .result) (c .count .result) (a .out .now) (w .last .1 .0)
-    (subst (λ (d : DeviceId). Writes (replyWrite (record { device = d; firmware = record { major = a .major; minor = a .minor }; voice = record { major = a .voice-major; minor = a .voice-minor } }) (length (a .out .now))) (w .result) (a .out .now) (w .last .1 .0)) (c .before .before .before .before .before .device-of .ensures) (w .ensures))
+    (subst (λ (d : DeviceId). Writes (replyWrite (record { device = d; firmware = record { major = a .major; minor = a .minor }; voice = record { major = a .voice-major; minor = a .voice-minor } }) (length (a .out .now))) (w .result) (a .out .now) (w .last .1 .0)) (device-of .ensures) (w .ensures))
     (c .count .ensures))
 
 pub dm-reply-write-spec : {M : Type 1} → statement M

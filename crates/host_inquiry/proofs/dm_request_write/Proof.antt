@@ -40,13 +40,16 @@ same-length : tie.Need-same-length
 same-length c = search needs
 
 returns-2 : tie.Need-returns-2
-returns-2 c = let a = c .before .before .before .before .before .before .before .before .args in
+returns-2 c =
+    let if1 = c .before .before .before .before .before .before .if1 in
+    let device-of = c .before .before .before .before .before .device-of in
+    let a = c .before .before .before .before .before .before .before .before .args in
     let w = c .before .before .before .request-into in
     let o = requestWrite (deviceFrom (a .everyone) (a .unit)) (length (a .out .now)) in
     named-told (leb (a .everyone) 1) o (c .count .result) (a .out .now) (w .last .1 .0)
-    (le-leb (a .everyone) 1 (omega (arith, c .before .before .before .before .before .before .if1 .left)))
+    (le-leb (a .everyone) 1 (omega (arith, if1 .left)))
     (writer-told o (w .result) (c .count .result) (a .out .now) (w .last .1 .0)
-    (subst (λ (d : DeviceId). Writes (requestWrite d (length (a .out .now))) (w .result) (a .out .now) (w .last .1 .0)) (c .before .before .before .before .before .device-of .ensures) (w .ensures))
+    (subst (λ (d : DeviceId). Writes (requestWrite d (length (a .out .now))) (w .result) (a .out .now) (w .last .1 .0)) (device-of .ensures) (w .ensures))
     (c .count .ensures))
 
 pub dm-request-write-spec : {M : Type 1} → statement M

@@ -26,9 +26,12 @@ same-length : tie.Need-same-length
 same-length c = search needs
 
 returns-2 : tie.Need-returns-2
-returns-2 c = let a = c .before .before .before .before .before .before .before .before .args in
+returns-2 c =
+    let if1 = c .before .before .before .before .before .before .if1 in
+    let new = c .before .before .before .before .before .new in
+    let a = c .before .before .before .before .before .before .before .before .args in
     let p = c .before .before .before .put-state in
-    state-sent fresh (a .state .now) (p .last .1 .0) (c .done .result) (c .before .before .before .before .before .before .if1 .left) (p .ensures ∙ ap encoded (c .before .before .before .before .before .new .ensures)) (c .done .ensures)
+    state-sent fresh (a .state .now) (p .last .1 .0) (c .done .result) (if1 .left) (p .ensures ∙ ap encoded (new .ensures)) (c .done .ensures)
 
 pub dm-fresh-spec : {M : Type 1} → statement M
 dm-fresh-spec =

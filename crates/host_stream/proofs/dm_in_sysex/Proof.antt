@@ -36,9 +36,13 @@ done-requires : tie.Need-done-requires
 done-requires c κs = search needs
 
 returns-2 : tie.Need-returns-2
-returns-2 c = let s = c .before .before .before .state-of in
-    rw (sym (c .before .before .before .before .before .is-state .ensures) ∙ not-false _ (c .before .before .before .before .if1 .left))
-    (c .done .ensures ∙ ap (λ (n : ℕ). answerOf (gives n)) (c .before .flag-of .ensures ∙ ap flag (c .before .before .in-sysex .ensures ∙ ap (λ (d : Decoder). d .in_sysex) (s .ensures))))
+returns-2 c =
+    let is-state = c .before .before .before .before .before .is-state in
+    let if1 = c .before .before .before .before .if1 in
+    let in-sysex = c .before .before .in-sysex in
+    let s = c .before .before .before .state-of in
+    rw (sym (is-state .ensures) ∙ not-false _ (if1 .left))
+    (c .done .ensures ∙ ap (λ (n : ℕ). answerOf (gives n)) (c .before .flag-of .ensures ∙ ap flag (in-sysex .ensures ∙ ap (λ (d : Decoder). d .in_sysex) (s .ensures))))
 
 pub dm-in-sysex-spec : {M : Type 1} → statement M
 dm-in-sysex-spec =

@@ -11,7 +11,8 @@ refused-requires : tie.Need-refused-requires
 refused-requires c κs = search needs
 
 returns : tie.Need-returns
-returns c = let a = c .before .before .before .args in state-refused (reset (stateOf (a .state .now))) (a .state .now) (c .refused .result) (c .before .if1 .taken) (c .refused .ensures)
+returns c = let a = c .before .before .before .args in state-refused (reset (stateOf (a .state .now))) (a .state .now) (c .refused .result)
+    (c .before .if1 .taken) (c .refused .ensures)
 
 state-of-requires : tie.Need-state-of-requires
 state-of-requires c κs = search needs
@@ -29,9 +30,14 @@ same-length : tie.Need-same-length
 same-length c = search needs
 
 returns-2 : tie.Need-returns-2
-returns-2 c = let a = c .before .before .before .before .before .before .before .before .before .before .args in
+returns-2 c =
+    let if1 = c .before .before .before .before .before .before .before .before .if1 in
+    let reset-there = c .before .before .before .before .before .reset in
+    let state-of = c .before .before .before .before .before .before .state-of in
+    let a = c .before .before .before .before .before .before .before .before .before .before .args in
     let p = c .before .before .before .put-state in
-    state-sent (reset (stateOf (a .state .now))) (a .state .now) (p .last .1 .0) (c .done .result) (c .before .before .before .before .before .before .before .before .if1 .left) (p .ensures ∙ ap encoded (c .before .before .before .before .before .reset .ensures ∙ ap reset (c .before .before .before .before .before .before .state-of .ensures))) (c .done .ensures)
+    state-sent (reset (stateOf (a .state .now))) (a .state .now) (p .last .1 .0) (c .done .result) (if1 .left)
+    (p .ensures ∙ ap encoded (reset-there .ensures ∙ ap reset (state-of .ensures))) (c .done .ensures)
 
 pub dm-reset-spec : {M : Type 1} → statement M
 dm-reset-spec =

@@ -23,7 +23,7 @@ topBits a b c d e f g h =
     + g / 128 * 0x80_0000_0000_0000
     + h / 128 * 0x8000_0000_0000_0000
 
--- those of the eight bytes from a place on
+-- the top bits of the eight bytes from a place on
 abbrev pub topBitsAt : List ℕ → ℕ → ℕ
 topBitsAt l i =
     topBits (getD l i 0) (getD l (i + 1) 0) (getD l (i + 2) 0) (getD l (i + 3) 0) (getD l (i + 4) 0) (getD l (i + 5) 0) (getD l (i + 6) 0)

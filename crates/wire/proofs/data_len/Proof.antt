@@ -22,19 +22,42 @@ returns-4 c = rw (le-ltb _ _ (c .before .before .before .if1 .left), le-ltb _ _ 
 
 returns-5 : tie.Need-returns-5
 unfolding dataLength
-returns-5 c = rw (le-ltb _ _ (c .before .before .before .before .if1 .left), le-ltb _ _ (c .before .before .before .if2 .left), le-ltb _ _ (c .before .before .if3 .left), le-ltb _ _ (c .before .if4 .left), eq-eqb _ _ (c .if5 .taken))
+returns-5 c =
+    let if1 = c .before .before .before .before .if1 in
+    let if2 = c .before .before .before .if2 in
+    let if3 = c .before .before .if3 in
+    rw (le-ltb _ _ (if1 .left), le-ltb _ _ (if2 .left), le-ltb _ _ (if3 .left), le-ltb _ _ (c .before .if4 .left), eq-eqb _ _ (c .if5 .taken))
 
 returns-6 : tie.Need-returns-6
 unfolding dataLength
-returns-6 c = rw (le-ltb _ _ (c .before .before .before .before .before .if1 .left), le-ltb _ _ (c .before .before .before .before .if2 .left), le-ltb _ _ (c .before .before .before .if3 .left), le-ltb _ _ (c .before .before .if4 .left), ne-eqb _ _ (c .before .if5 .left), eq-eqb _ _ (c .if6 .taken))
+returns-6 c =
+    let if1 = c .before .before .before .before .before .if1 in
+    let if2 = c .before .before .before .before .if2 in
+    let if3 = c .before .before .before .if3 in
+    let if4 = c .before .before .if4 in
+    rw (le-ltb _ _ (if1 .left), le-ltb _ _ (if2 .left), le-ltb _ _ (if3 .left), le-ltb _ _ (if4 .left), ne-eqb _ _ (c .before .if5 .left), eq-eqb _ _ (c .if6 .taken))
 
 returns-7 : tie.Need-returns-7
 unfolding dataLength
-returns-7 c = rw (le-ltb _ _ (c .before .before .before .before .before .before .if1 .left), le-ltb _ _ (c .before .before .before .before .before .if2 .left), le-ltb _ _ (c .before .before .before .before .if3 .left), le-ltb _ _ (c .before .before .before .if4 .left), ne-eqb _ _ (c .before .before .if5 .left), ne-eqb _ _ (c .before .if6 .left), eq-eqb _ _ (c .if7 .taken))
+returns-7 c =
+    let if1 = c .before .before .before .before .before .before .if1 in
+    let if2 = c .before .before .before .before .before .if2 in
+    let if3 = c .before .before .before .before .if3 in
+    let if4 = c .before .before .before .if4 in
+    let if5 = c .before .before .if5 in
+    rw
+    (le-ltb _ _ (if1 .left), le-ltb _ _ (if2 .left), le-ltb _ _ (if3 .left), le-ltb _ _ (if4 .left), ne-eqb _ _ (if5 .left), ne-eqb _ _ (c .before .if6 .left), eq-eqb _ _ (c .if7 .taken))
 
 returns-8 : tie.Need-returns-8
 unfolding dataLength
-returns-8 c = rw (le-ltb _ _ (c .before .before .before .before .before .before .if1 .left), le-ltb _ _ (c .before .before .before .before .before .if2 .left), le-ltb _ _ (c .before .before .before .before .if3 .left), le-ltb _ _ (c .before .before .before .if4 .left), ne-eqb _ _ (c .before .before .if5 .left), ne-eqb _ _ (c .before .if6 .left), ne-eqb _ _ (c .if7 .left))
+returns-8 c =
+    let if1 = c .before .before .before .before .before .before .if1 in
+    let if2 = c .before .before .before .before .before .if2 in
+    let if3 = c .before .before .before .before .if3 in
+    let if4 = c .before .before .before .if4 in
+    let if5 = c .before .before .if5 in
+    rw
+    (le-ltb _ _ (if1 .left), le-ltb _ _ (if2 .left), le-ltb _ _ (if3 .left), le-ltb _ _ (if4 .left), ne-eqb _ _ (if5 .left), ne-eqb _ _ (c .before .if6 .left), ne-eqb _ _ (c .if7 .left))
 
 pub data-len-spec : {M : Type 1} → statement M
 data-len-spec =

@@ -32,7 +32,12 @@ message-requires-2 : tie.Need-message-requires-2
 message-requires-2 c κs = search needs
 
 returns-2 : tie.Need-returns-2
-returns-2 c = rw (c .message2 .ensures, c .before .completed2 .ensures, c .before .before .before .before .before .before .before .now .given .1, eq-eqb _ 0 (c .before .before .before .before .if1 .left), ← c .before .before .before .data-len .ensures, le-leb _ 1 (c .before .before .if2 .taken))
+returns-2 c =
+    let now = c .before .before .before .before .before .before .before .now in
+    let if1 = c .before .before .before .before .if1 in
+    let data-len = c .before .before .before .data-len in
+    let if2 = c .before .before .if2 in
+    rw (c .message2 .ensures, c .before .completed2 .ensures, now .given .1, eq-eqb _ 0 (if1 .left), ← data-len .ensures, le-leb _ 1 (if2 .taken))
 
 waiting-requires : tie.Need-waiting-requires
 waiting-requires c κs = search needs
@@ -44,7 +49,12 @@ returns-3 : tie.Need-returns-3
 returns-3 c = rw (c .silent .ensures, c .before .enum-told .given .1)
 
 returns-4 : tie.Need-returns-4
-returns-4 c = rw (c .silent2 .ensures, c .before .waiting .ensures, c .before .before .before .before .before .before .before .now .given .1, eq-eqb _ 0 (c .before .before .before .before .if1 .left), ← c .before .before .before .data-len .ensures, lt-leb _ 1 (c .before .before .if2 .left))
+returns-4 c =
+    let now = c .before .before .before .before .before .before .before .now in
+    let if1 = c .before .before .before .before .if1 in
+    let data-len = c .before .before .before .data-len in
+    let if2 = c .before .before .if2 in
+    rw (c .silent2 .ensures, c .before .waiting .ensures, now .given .1, eq-eqb _ 0 (if1 .left), ← data-len .ensures, lt-leb _ 1 (if2 .left))
 
 pub collect-spec : {M : Type 1} → statement M
 collect-spec =

@@ -21,7 +21,8 @@ is-sound-requires c κs = search needs
 
 returns-2 : tie.Need-returns-2
 returns-2 c = let a = c .before .before .before .before .before .args in
-    refuses _ (a .store .now) (unsound-refused (a .self) (a .store .now) (a .bytes .now) (sym (c .before .is-sound .ensures) ∙ not-true (c .before .is-sound .result) (c .if2 .taken)))
+    refuses _ (a .store .now)
+    (unsound-refused (a .self) (a .store .now) (a .bytes .now) (sym (c .before .is-sound .ensures) ∙ not-true (c .before .is-sound .result) (c .if2 .taken)))
 
 walk-requires : tie.Need-walk-requires
 walk-requires c κs = omega (arith, limit-is)

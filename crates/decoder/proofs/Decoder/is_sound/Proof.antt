@@ -20,14 +20,21 @@ is-none-requires : tie.Need-is-none-requires
 is-none-requires c κs = search needs
 
 returns-3 : tie.Need-returns-3
-returns-3 c = let a = c .before .before .before .before .before .args in
+returns-3 c =
+    let if1 = c .before .before .before .before .if1 in
+    let if2 = c .before .before .before .if2 in
+    let a = c .before .before .before .before .before .args in
     let fits : a .self .len ≤ limit = omega (arith, limit-is) in
-    rw (c .before .before .before .before .if1 .taken, le-leb 1 _ (c .before .before .before .if2 .left), le-leb _ limit fits, ← c .before .is-none .ensures, not-true (c .before .is-none .result) (c .if4 .taken))
+    rw (if1 .taken, le-leb 1 _ (if2 .left), le-leb _ limit fits, ← c .before .is-none .ensures, not-true (c .before .is-none .result) (c .if4 .taken))
 
 returns-4 : tie.Need-returns-4
-returns-4 c = let a = c .before .before .before .before .before .before .args in
+returns-4 c =
+    let if1 = c .before .before .before .before .before .if1 in
+    let if2 = c .before .before .before .before .if2 in
+    let is-none = c .before .before .is-none in
+    let a = c .before .before .before .before .before .before .args in
     let fits : a .self .len ≤ limit = omega (arith, limit-is) in
-    rw (c .before .before .before .before .before .if1 .taken, le-leb 1 _ (c .before .before .before .before .if2 .left), le-leb _ limit fits, ← c .before .before .is-none .ensures, not-false (c .before .before .is-none .result) (c .before .if4 .left))
+    rw (if1 .taken, le-leb 1 _ (if2 .left), le-leb _ limit fits, ← is-none .ensures, not-false (is-none .result) (c .before .if4 .left))
 
 returns-5 : tie.Need-returns-5
 returns-5 c = rw (c .before .if1 .left, ne-eqb _ 0 (c .if5 .taken))

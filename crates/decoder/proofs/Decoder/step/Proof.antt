@@ -31,10 +31,14 @@ too-long-requires : tie.Need-too-long-requires
 too-long-requires c κs = search needs
 
 returns-2 : tie.Need-returns-2
-returns-2 c = let a = c .before .before .before .before .before .before .before .before .args in
+returns-2 c =
+    let if1 = c .before .before .if1 in
+    let class-of = c .before .before .before .before .before .before .class-of in
+    let enum-told-there = c .before .before .before .before .enum-told in
+    let a = c .before .before .before .before .before .before .before .before .args in
     let over : limit ≤ a .self .len = omega (arith, limit-is) in
-    let eqs = data-over (a .self) (a .store .now) (a .byte) (not-false (a .self .in_sysex) (c .before .before .if1 .left)) over in
-    step-by k.Data (a .self) (a .store .now) (a .byte) (sym (c .before .before .before .before .before .before .class-of .ensures) ∙ c .before .before .before .before .enum-told .given .1) _ _
+    let eqs = data-over (a .self) (a .store .now) (a .byte) (not-false (a .self .in_sysex) (if1 .left)) over in
+    step-by k.Data (a .self) (a .store .now) (a .byte) (sym (class-of .ensures) ∙ enum-told-there .given .1) _ _
     (c .too-long .ensures ∙ sym (eqs .0)) (sym (eqs .1))
 
 slice-write-store : tie.Need-slice-write-store
@@ -95,10 +99,14 @@ silent-requires-2 : tie.Need-silent-requires-2
 silent-requires-2 c κs = search needs
 
 returns-3 : tie.Need-returns-3
-returns-3 c = let a = c .before .before .before .before .before .before .before .before .args in
+returns-3 c =
+    let class-of = c .before .before .before .before .before .before .class-of in
+    let enum-told6 = c .before .before .before .before .enum-told6 in
+    let cleared3 = c .before .before .before .cleared3 in
+    let a = c .before .before .before .before .before .before .before .before .args in
     let eqs = end-plain (a .self) (a .store .now) (a .byte) (not-true (a .self .in_sysex) (c .before .if3 .taken)) in
-    step-by k.End (a .self) (a .store .now) (a .byte) (sym (c .before .before .before .before .before .before .class-of .ensures) ∙ c .before .before .before .before .enum-told6 .given .1) _ _
-    (c .silent2 .ensures ∙ ap silent (c .before .before .before .cleared3 .ensures) ∙ sym (eqs .0)) (sym (eqs .1))
+    step-by k.End (a .self) (a .store .now) (a .byte) (sym (class-of .ensures) ∙ enum-told6 .given .1) _ _
+    (c .silent2 .ensures ∙ ap silent (cleared3 .ensures) ∙ sym (eqs .0)) (sym (eqs .1))
 
 slice-write-store-3 : tie.Need-slice-write-store-3
 slice-write-store-3 c = omega (arith, limit-is)
@@ -113,11 +121,16 @@ same-length : tie.Need-same-length
 same-length c = search needs
 
 returns-4 : tie.Need-returns-4
-returns-4 c = let a = c .before .before .before .before .before .before .before .before .before .args in
+returns-4 c =
+    let if3 = c .before .before .if3 in
+    let class-of = c .before .before .before .before .before .before .before .class-of in
+    let enum-told6 = c .before .before .before .before .before .enum-told6 in
+    let cleared3 = c .before .before .before .before .cleared3 in
+    let a = c .before .before .before .before .before .before .before .before .before .args in
     let fits : a .self .len < limit = omega (arith, limit-is) in
-    let eqs = end-fits (a .self) (a .store .now) (a .byte) (not-false (a .self .in_sysex) (c .before .before .if3 .left)) fits in
-    step-by k.End (a .self) (a .store .now) (a .byte) (sym (c .before .before .before .before .before .before .before .class-of .ensures) ∙ c .before .before .before .before .before .enum-told6 .given .1) _ _
-    (rw (c .reporting .ensures, c .before .before .before .before .cleared3 .ensures) (sym (eqs .0))) (sym (eqs .1))
+    let eqs = end-fits (a .self) (a .store .now) (a .byte) (not-false (a .self .in_sysex) (if3 .left)) fits in
+    step-by k.End (a .self) (a .store .now) (a .byte) (sym (class-of .ensures) ∙ enum-told6 .given .1) _ _
+    (rw (c .reporting .ensures, cleared3 .ensures) (sym (eqs .0))) (sym (eqs .1))
 
 too-long-requires-2 : tie.Need-too-long-requires-2
 too-long-requires-2 c κs = search needs
@@ -132,10 +145,14 @@ same-length-2 : tie.Need-same-length-2
 same-length-2 c = search needs
 
 returns-5 : tie.Need-returns-5
-returns-5 c = let a = c .before .before .before .before .before .before .before .before .before .args in
+returns-5 c =
+    let if1 = c .before .before .before .if1 in
+    let class-of = c .before .before .before .before .before .before .before .class-of in
+    let enum-told-there = c .before .before .before .before .before .enum-told in
+    let a = c .before .before .before .before .before .before .before .before .before .args in
     let fits : a .self .len < limit = omega (arith, limit-is) in
-    let eqs = data-fits (a .self) (a .store .now) (a .byte) (not-false (a .self .in_sysex) (c .before .before .before .if1 .left)) fits in
-    step-by k.Data (a .self) (a .store .now) (a .byte) (sym (c .before .before .before .before .before .before .before .class-of .ensures) ∙ c .before .before .before .before .before .enum-told .given .1) _ _
+    let eqs = data-fits (a .self) (a .store .now) (a .byte) (not-false (a .self .in_sysex) (if1 .left)) fits in
+    step-by k.Data (a .self) (a .store .now) (a .byte) (sym (class-of .ensures) ∙ enum-told-there .given .1) _ _
     (rw (c .silent .ensures, c .before .longer .ensures) (sym (eqs .0))) (sym (eqs .1))
 
 returns-6 : tie.Need-returns-6
@@ -162,10 +179,14 @@ returns-9 c = let a = c .before .before .before .before .before .before .args in
     (rw (c .status-byte4 .ensures, c .before .cleared2 .ensures)) refl
 
 returns-10 : tie.Need-returns-10
-returns-10 c = let a = c .before .before .before .before .before .before .before .before .before .args in
+returns-10 c =
+    let if3 = c .before .before .if3 in
+    let class-of = c .before .before .before .before .before .before .before .class-of in
+    let enum-told6 = c .before .before .before .before .before .enum-told6 in
+    let a = c .before .before .before .before .before .before .before .before .before .args in
     let over : limit ≤ a .self .len = omega (arith, limit-is) in
-    let eqs = end-over (a .self) (a .store .now) (a .byte) (not-false (a .self .in_sysex) (c .before .before .if3 .left)) over in
-    step-by k.End (a .self) (a .store .now) (a .byte) (sym (c .before .before .before .before .before .before .before .class-of .ensures) ∙ c .before .before .before .before .before .enum-told6 .given .1) _ _
+    let eqs = end-over (a .self) (a .store .now) (a .byte) (not-false (a .self .in_sysex) (if3 .left)) over in
+    step-by k.End (a .self) (a .store .now) (a .byte) (sym (class-of .ensures) ∙ enum-told6 .given .1) _ _
     (c .too-long2 .ensures ∙ sym (eqs .0)) (sym (eqs .1))
 
 returns-11 : tie.Need-returns-11

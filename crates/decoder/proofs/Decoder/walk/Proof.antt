@@ -37,20 +37,26 @@ same-length c = let s = c .before .before .before .before .before .step in
     ap length (s .ensures .1) ∙ length-kept (l .state) (l .store) _ ∙ l .inv .same
 
 returns : tie.Need-returns Inv-loop μ-loop
-returns c = let a = c .before .before .before .before .before .before .before .before .before .before .before .before .args in
+returns c =
+    let loop-test = c .before .before .before .before .before .before .before .before .loop-test in
+    let a = c .before .before .before .before .before .before .before .before .before .before .before .before .args in
     let l = c .before .before .before .before .before .before .before .before .before .loop in
     let s = c .before .before .before .before .before .step in
-    let e = walking-stops (a .self) (a .store .now) (a .bytes .now) (l .state) (l .store) (l .used) (l .inv) (c .before .before .before .before .before .before .before .before .loop-test .taken) (s .result) (s .last .1 .0) (s .ensures .0) (s .ensures .1) (sym (c .before .reports .ensures) ∙ c .if1 .taken) in
+    let e = walking-stops (a .self) (a .store .now) (a .bytes .now) (l .state) (l .store) (l .used) (l .inv) (loop-test .taken) (s .result)
+    (s .last .1 .0) (s .ensures .0) (s .ensures .1) (sym (c .before .reports .ensures) ∙ c .if1 .taken) in
     record { told = sym (ap (λ (w : Walked). w .fed) e); left = sym (ap (λ (w : Walked). w .store) e) }
 
 loop-less : tie.Need-loop-less Inv-loop μ-loop
 loop-less c = omega arith
 
 loop-again : tie.Need-loop-again Inv-loop μ-loop
-loop-again c = let a = c .before .before .before .before .before .before .before .before .before .before .before .before .args in
+loop-again c =
+    let loop-test = c .before .before .before .before .before .before .before .before .loop-test in
+    let a = c .before .before .before .before .before .before .before .before .before .before .before .before .args in
     let l = c .before .before .before .before .before .before .before .before .before .loop in
     let s = c .before .before .before .before .before .step in
-    walking-goes-on (a .self) (a .store .now) (a .bytes .now) (l .state) (l .store) (l .used) (l .inv) (c .before .before .before .before .before .before .before .before .loop-test .taken) (s .result) (s .last .1 .0) (s .ensures .0) (s .ensures .1) (sym (c .before .reports .ensures) ∙ c .if1 .left)
+    walking-goes-on (a .self) (a .store .now) (a .bytes .now) (l .state) (l .store) (l .used) (l .inv) (loop-test .taken) (s .result) (s .last .1 .0)
+    (s .ensures .0) (s .ensures .1) (sym (c .before .reports .ensures) ∙ c .if1 .left)
 
 same-length-2 : tie.Need-same-length-2 Inv-loop μ-loop
 same-length-2 c = c .before .loop .inv .same

@@ -23,19 +23,30 @@ returns-2 c = let some : 0 < c .before .before .data-len .result = omega arith i
     rw (c .before .before .before .before .self .given .1, ← c .before .before .data-len .ensures, lt-ltb _ _ some, c .if2 .taken)
 
 returns-3 : tie.Need-returns-3
-returns-3 c = let some : 0 < c .before .before .before .data-len .result = omega arith in
-    rw (c .before .before .before .before .before .self .given .1, ← c .before .before .before .data-len .ensures, lt-ltb _ _ some, ne-eqb _ 0 (c .before .if2 .left), ne-eqb _ 1 (c .if3 .taken))
+returns-3 c =
+    let data-len = c .before .before .before .data-len in
+    let self = c .before .before .before .before .before .self in
+    let some : 0 < data-len .result = omega arith in
+    rw (self .given .1, ← data-len .ensures, lt-ltb _ _ some, ne-eqb _ 0 (c .before .if2 .left), ne-eqb _ 1 (c .if3 .taken))
 
 returns-4 : tie.Need-returns-4
-returns-4 c = let some : 0 < c .before .before .before .before .data-len .result = omega arith in
-    rw (c .before .before .before .before .before .before .self .given .1, ← c .before .before .before .before .data-len .ensures, lt-ltb _ _ some, ne-eqb _ 0 (c .before .before .if2 .left), eq-eqb _ 1 (c .before .if3 .left), lt-leb _ 127 (c .if4 .taken))
+returns-4 c =
+    let data-len = c .before .before .before .before .data-len in
+    let self = c .before .before .before .before .before .before .self in
+    let if2 = c .before .before .if2 in
+    let some : 0 < data-len .result = omega arith in
+    rw (self .given .1, ← data-len .ensures, lt-ltb _ _ some, ne-eqb _ 0 (if2 .left), eq-eqb _ 1 (c .before .if3 .left), lt-leb _ 127 (c .if4 .taken))
 
 returns-5 : tie.Need-returns-5
 returns-5 c = rw (c .enum-told .given .1)
 
 returns-6 : tie.Need-returns-6
-returns-6 c = let some : 0 < c .before .before .before .before .data-len .result = omega arith in
-    rw (c .before .before .before .before .before .before .self .given .1, ← c .before .before .before .before .data-len .ensures, lt-ltb _ _ some, ne-eqb _ 0 (c .before .before .if2 .left), eq-eqb _ 1 (c .before .if3 .left), le-leb _ 127 (c .if4 .left))
+returns-6 c =
+    let data-len = c .before .before .before .before .data-len in
+    let self = c .before .before .before .before .before .before .self in
+    let if2 = c .before .before .if2 in
+    let some : 0 < data-len .result = omega arith in
+    rw (self .given .1, ← data-len .ensures, lt-ltb _ _ some, ne-eqb _ 0 (if2 .left), eq-eqb _ 1 (c .before .if3 .left), le-leb _ 127 (c .if4 .left))
 
 pub waits-soundly-spec : {M : Type 1} → statement M
 waits-soundly-spec =

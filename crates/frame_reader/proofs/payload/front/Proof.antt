@@ -24,9 +24,13 @@ fields-at-requires : tie.Need-fields-at-requires
 fields-at-requires c κs = search needs
 
 returns : tie.Need-returns
-returns c = let a = c .before .before .before .before .before .before .before .args in
+returns c =
+    let byte-at3 = c .before .before .before .byte-at3 in
+    let byte-at4 = c .before .before .byte-at4 in
+    let a = c .before .before .before .before .before .before .before .args in
     let b = c .before .before .before .before in
-    c .fields-at .ensures ∙ rw (b .before .byte-at .ensures, b .byte-at2 .ensures, c .before .before .before .byte-at3 .ensures, c .before .before .byte-at4 .ensures, c .before .byte-at5 .ensures) (fields-five (a .command) (a .numbered) (a .payload .now))
+    c .fields-at .ensures ∙ rw (b .before .byte-at .ensures, b .byte-at2 .ensures, byte-at3 .ensures, byte-at4 .ensures, c .before .byte-at5 .ensures)
+    (fields-five (a .command) (a .numbered) (a .payload .now))
 
 pub front-spec : {M : Type 1} → statement M
 front-spec =

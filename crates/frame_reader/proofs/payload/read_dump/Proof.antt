@@ -24,9 +24,12 @@ row-requires : tie.Need-row-requires
 row-requires c κs = search needs
 
 returns : tie.Need-returns
-returns c = let a = c .before .before .before .before .before .args in
+returns c =
+    let early-len = c .before .before .before .early-len in
+    let if1 = c .before .before .if1 in
+    let a = c .before .before .before .before .before .args in
     let e : c .row .result .«prefix_len» ≡ prefixLength (a .command) = ap (λ (x : Row). x .«prefix_len») (c .row .ensures) in
-    rw (e, c .before .to-byte .ensures, lt-leb (early (a .command)) (length (a .payload .now)) (rw (c .before .before .before .early-len .ensures) at (c .before .before .if1 .taken)))
+    rw (e, c .before .to-byte .ensures, lt-leb (early (a .command)) (length (a .payload .now)) (rw (early-len .ensures) at (if1 .taken)))
 
 shared-slice-read-new : tie.Need-shared-slice-read-new
 shared-slice-read-new c = omega (arith, early-one (c .before .before .before .before .args .command), c .before .before .early-len .ensures, c .before .if1 .left)
@@ -46,18 +49,28 @@ read-run-requires c κs = let p = c .before .before .before .before .before .bef
     version-in-range (getD p 0 0) (v .0 .0) (sym (c .before .before .before .new .ensures) ∙ ap versionTold (v .1)) .1
 
 returns-2 : tie.Need-returns-2
-returns-2 c = let b = c .before .before .before .before .before .before .before .before in
+returns-2 c =
+    let early-len = c .before .before .before .before .before .before .early-len in
+    let if1 = c .before .before .before .before .before .if1 in
+    let new = c .before .before .before .new in
+    let b = c .before .before .before .before .before .before .before .before in
     let a = b .args in
-    let least : early (a .command) ≤ length (a .payload .now) = rw (c .before .before .before .before .before .before .early-len .ensures) at (c .before .before .before .before .before .if1 .left) in
-    rw (le-leb (early (a .command)) (length (a .payload .now)) least) (version-refused (getD (a .payload .now) 0 0) (c .before .e .given .0 .0) _ (ap versionTold (sym (c .before .e .given .1)) ∙ c .before .before .before .new .ensures))
+    let least : early (a .command) ≤ length (a .payload .now) = rw (early-len .ensures) at (if1 .left) in
+    rw (le-leb (early (a .command)) (length (a .payload .now)) least)
+    (version-refused (getD (a .payload .now) 0 0) (c .before .e .given .0 .0) _ (ap versionTold (sym (c .before .e .given .1)) ∙ new .ensures))
 
 returns-3 : tie.Need-returns-3
-returns-3 c = let b = c .before .before .before .before .before .before .before .before .before in
+returns-3 c =
+    let version = c .before .before .version in
+    let new = c .before .before .before .before .new in
+    let early-len = c .before .before .before .before .before .before .before .early-len in
+    let if1 = c .before .before .before .before .before .before .if1 in
+    let b = c .before .before .before .before .before .before .before .before .before in
     let a = b .args in
     let p = a .payload .now in
-    let v = c .before .before .version .given in
-    let read = sym (c .before .before .before .before .new .ensures) ∙ ap versionTold (v .1) in
-    let least : early (a .command) ≤ length p = rw (c .before .before .before .before .before .before .before .early-len .ensures) at (c .before .before .before .before .before .before .if1 .left) in
+    let v = version .given in
+    let read = sym (new .ensures) ∙ ap versionTold (v .1) in
+    let least : early (a .command) ≤ length p = rw (early-len .ensures) at (if1 .left) in
     c .read-run .ensures ∙ ap (λ (n : ℕ). readRun (a .command) n p) (version-in-range (getD p 0 0) (v .0 .0) read .0)
     ∙ rw (le-leb (early (a .command)) (length p) least) (sym (version-passed (getD p 0 0) (v .0 .0) (readRun (a .command) (getD p 0 0) p) (sym read)))
 

@@ -50,27 +50,38 @@ check-small-requires : tie.Need-check-small-requires
 check-small-requires c κs = search needs
 
 returns-2 : tie.Need-returns-2
-returns-2 c = let b = c .before .before .before .before .before .before .before .before .before in
+returns-2 c =
+    let if1 = c .before .before .before .before .before .if1 in
+    let to-byte = c .before .before .before .before .before .before .before .to-byte in
+    let if2 = c .before .before .before .before .if2 in
+    let unpacked-len = c .before .before .before .unpacked-len in
+    let b = c .before .before .before .before .before .before .before .before .before in
     let a = b .args in
     let p = a .payload .now in
     let r = c .before .before .before .before .before .before .row in
     let e : r .result .«prefix_len» ≡ prefixLength (a .command) = ap (λ (x : Row). x .«prefix_len») (r .ensures) in
     let n : ℕ = length p - prefixLength (a .command) in
-    let least : prefixLength (a .command) ≤ length p = omega (arith, e, c .before .before .before .before .before .if1 .left) in
-    let code = sym (c .before .before .before .before .before .before .before .to-byte .ensures) ∙ c .before .before .before .before .if2 .taken in
-    refused-too (not (eqb (n % 8) 1)) 13 (n ∷ []) (unpackedLength n) _ (c .before .e .given .0 .0) (rw e at (ap counted (sym (c .before .e .given .1)) ∙ c .before .before .before .unpacked-len .ensures))
+    let least : prefixLength (a .command) ≤ length p = omega (arith, e, if1 .left) in
+    let code = sym (to-byte .ensures) ∙ if2 .taken in
+    refused-too (not (eqb (n % 8) 1)) 13 (n ∷ []) (unpackedLength n) _ (c .before .e .given .0 .0) (rw e at (ap counted (sym (c .before .e .given .1)) ∙ unpacked-len .ensures))
     ∙ any-run (a .command) (a .version .0) p least code
 
 returns-3 : tie.Need-returns-3
-returns-3 c = let b = c .before .before .before .before .before .before .before .before .before .before in
+returns-3 c =
+    let if1 = c .before .before .before .before .before .before .if1 in
+    let to-byte = c .before .before .before .before .before .before .before .before .to-byte in
+    let if2 = c .before .before .before .before .before .if2 in
+    let enum-told-there = c .before .before .enum-told in
+    let unpacked-len = c .before .before .before .before .unpacked-len in
+    let b = c .before .before .before .before .before .before .before .before .before .before in
     let a = b .args in
     let p = a .payload .now in
     let r = c .before .before .before .before .before .before .before .row in
     let e : r .result .«prefix_len» ≡ prefixLength (a .command) = ap (λ (x : Row). x .«prefix_len») (r .ensures) in
     let n : ℕ = length p - prefixLength (a .command) in
-    let least : prefixLength (a .command) ≤ length p = omega (arith, e, c .before .before .before .before .before .before .if1 .left) in
-    let code = sym (c .before .before .before .before .before .before .before .before .to-byte .ensures) ∙ c .before .before .before .before .before .if2 .taken in
-    let given = unpacked-given n (c .before .before .enum-told .given .0 .0) (rw e at (ap counted (sym (c .before .before .enum-told .given .1)) ∙ c .before .before .before .before .unpacked-len .ensures)) in
+    let least : prefixLength (a .command) ≤ length p = omega (arith, e, if1 .left) in
+    let code = sym (to-byte .ensures) ∙ if2 .taken in
+    let given = unpacked-given n (enum-told-there .given .0 .0) (rw e at (ap counted (sym (enum-told-there .given .1)) ∙ unpacked-len .ensures)) in
     c .check-small .ensures ∙ ap smallChecked (c .before .front .ensures) ∙ sym (fields-tested (a .command) false p (b .pre))
     ∙ rw (given .1) at (any-run (a .command) (a .version .0) p least code)
 
@@ -109,40 +120,66 @@ check-small-requires-3 : tie.Need-check-small-requires-3
 check-small-requires-3 c κs = search needs
 
 returns-5 : tie.Need-returns-5
-returns-5 c = let b = c .before .before .before .before .before .before .before .before .before .before .before .before .before in
+returns-5 c =
+    let if1 = c .before .before .before .before .before .before .before .before .before .if1 in
+    let to-byte = c .before .before .before .before .before .before .before .before .before .before .before .to-byte in
+    let raw-len = c .before .before .before .before .before .before .before .raw-len in
+    let holds = c .before .before .before .before .before .before .holds in
+    let if3 = c .before .before .before .before .before .if3 in
+    let if2 = c .before .before .before .before .before .before .before .before .if2 in
+    let if4 = c .before .before .before .before .if4 in
+    let is-numbered = c .before .before .before .is-numbered in
+    let if5 = c .before .before .if5 in
+    let b = c .before .before .before .before .before .before .before .before .before .before .before .before .before in
     let a = b .args in
     let p = a .payload .now in
     let r = c .before .before .before .before .before .before .before .before .before .before .row in
     let e : r .result .«prefix_len» ≡ prefixLength (a .command) = ap (λ (x : Row). x .«prefix_len») (r .ensures) in
-    let least : prefixLength (a .command) ≤ length p = omega (arith, e, c .before .before .before .before .before .before .before .before .before .if1 .left) in
-    let code = c .before .before .before .before .before .before .before .before .before .before .before .to-byte .ensures in
+    let least : prefixLength (a .command) ≤ length p = omega (arith, e, if1 .left) in
+    let code = to-byte .ensures in
     let is : accepted (rawLengthFor (a .command) (a .version .0)) (length p - prefixLength (a .command)) ≡ false =
-    rw (c .before .before .before .before .before .before .before .raw-len .ensures, e) at (sym (c .before .before .before .before .before .before .holds .ensures) ∙ c .before .before .before .before .before .if3 .left) in
+    rw (raw-len .ensures, e) at (sym (holds .ensures) ∙ if3 .left) in
     c .check-small3 .ensures ∙ ap smallChecked (c .before .front3 .ensures) ∙ sym (fields-tested (a .command) true p (b .pre))
-    ∙ sym (run-numbered (a .command) (a .version .0) p least (λ q. c .before .before .before .before .before .before .before .before .if2 .left (code ∙ q)) is (sym code ∙ c .before .before .before .before .if4 .taken) (sym (c .before .before .before .is-numbered .ensures) ∙ c .before .before .if5 .taken))
+    ∙ sym (run-numbered (a .command) (a .version .0) p least (λ q. if2 .left (code ∙ q)) is (sym code ∙ if4 .taken) (sym (is-numbered .ensures) ∙ if5 .taken))
 
 add-expected : tie.Need-add-expected
-add-expected c = omega (arith, c .before .before .before .raw-len .ensures, raw-small (c .before .before .before .before .before .before .before .before .before .args .command) (c .before .before .before .before .before .before .before .before .before .args .version .0))
+add-expected c =
+    let raw-len = c .before .before .before .raw-len in
+    let a = c .before .before .before .before .before .before .before .before .before .args in
+    omega (arith, raw-len .ensures, raw-small (a .command) (a .version .0))
 
 mul-expected : tie.Need-mul-expected
-mul-expected c = omega (arith, c .before .before .before .raw-len .ensures, raw-small (c .before .before .before .before .before .before .before .before .before .args .command) (c .before .before .before .before .before .before .before .before .before .args .version .0))
+mul-expected c =
+    let raw-len = c .before .before .before .raw-len in
+    let a = c .before .before .before .before .before .before .before .before .before .args in
+    omega (arith, raw-len .ensures, raw-small (a .command) (a .version .0))
 
 add-expected-2 : tie.Need-add-expected-2
-add-expected-2 c = omega (arith, c .before .before .before .raw-len .ensures, raw-small (c .before .before .before .before .before .before .before .before .before .args .command) (c .before .before .before .before .before .before .before .before .before .args .version .0), c .before .before .before .before .before .if1 .left)
+add-expected-2 c =
+    let raw-len = c .before .before .before .raw-len in
+    let a = c .before .before .before .before .before .before .before .before .before .args in
+    let if1 = c .before .before .before .before .before .if1 in
+    omega (arith, raw-len .ensures, raw-small (a .command) (a .version .0), if1 .left)
 
 returns-6 : tie.Need-returns-6
-returns-6 c = let b = c .before .before .before .before .before .before .before .before .before in
+returns-6 c =
+    let if1 = c .before .before .before .before .before .if1 in
+    let to-byte = c .before .before .before .before .before .before .before .to-byte in
+    let raw-len = c .before .before .before .raw-len in
+    let holds = c .before .before .holds in
+    let if2 = c .before .before .before .before .if2 in
+    let b = c .before .before .before .before .before .before .before .before .before in
     let a = b .args in
     let p = a .payload .now in
     let r = c .before .before .before .before .before .before .row in
     let e : r .result .«prefix_len» ≡ prefixLength (a .command) = ap (λ (x : Row). x .«prefix_len») (r .ensures) in
-    let least : prefixLength (a .command) ≤ length p = omega (arith, e, c .before .before .before .before .before .if1 .left) in
-    let code = c .before .before .before .before .before .before .before .to-byte .ensures in
+    let least : prefixLength (a .command) ≤ length p = omega (arith, e, if1 .left) in
+    let code = to-byte .ensures in
     let is : accepted (rawLengthFor (a .command) (a .version .0)) (length p - prefixLength (a .command)) ≡ false =
-    rw (c .before .before .before .raw-len .ensures, e) at (sym (c .before .before .holds .ensures) ∙ c .before .if3 .left) in
+    rw (raw-len .ensures, e) at (sym (holds .ensures) ∙ c .before .if3 .left) in
     let none : (eqb (codeOf (a .command)) 0x08 && numberedBy (length p)) ≡ false =
     ⊎-elim (λ w. rw (eq-eqb _ 0x08 (sym code ∙ w .0 .taken), sym (w .1 .ensures) ∙ w .2 .left)) (λ w. rw (ne-eqb _ 0x08 (λ q. w .left (code ∙ q)))) (c .if4 .came) in
-    rw (e, code, c .before .before .before .raw-len .ensures) (run-refused (a .command) (a .version .0) p least (λ q. c .before .before .before .before .if2 .left (code ∙ q)) is none)
+    rw (e, code, raw-len .ensures) (run-refused (a .command) (a .version .0) p least (λ q. if2 .left (code ∙ q)) is none)
 
 pub read-run-spec : {M : Type 1} → statement M
 read-run-spec =

@@ -29,9 +29,14 @@ check-small-requires : tie.Need-check-small-requires
 check-small-requires c κs = search needs
 
 returns-2 : tie.Need-returns-2
-returns-2 c = let a = c .before .before .before .before .before .args in
-    let e : c .before .before .before .row .result .«prefix_len» ≡ prefixLength (a .command) = ap (λ (r : Row). r .«prefix_len») (c .before .before .before .row .ensures) in
-    c .check-small .ensures ∙ ap smallChecked (c .before .front .ensures) ∙ sym (fields-untested (a .command) false (a .payload .now) (c .before .before .before .before .before .pre)) ∙ rw (eq-eqb (length (a .payload .now)) (prefixLength (a .command)) (c .before .before .if1 .left ∙ e))
+returns-2 c =
+    let row = c .before .before .before .row in
+    let pre-there = c .before .before .before .before .before .pre in
+    let if1 = c .before .before .if1 in
+    let a = c .before .before .before .before .before .args in
+    let e : row .result .«prefix_len» ≡ prefixLength (a .command) = ap (λ (r : Row). r .«prefix_len») (row .ensures) in
+    c .check-small .ensures ∙ ap smallChecked (c .before .front .ensures) ∙ sym (fields-untested (a .command) false (a .payload .now) pre-there) ∙ rw
+    (eq-eqb (length (a .payload .now)) (prefixLength (a .command)) (if1 .left ∙ e))
 
 pub read-short-spec : {M : Type 1} → statement M
 read-short-spec =

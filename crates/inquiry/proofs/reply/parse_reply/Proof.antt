@@ -42,12 +42,21 @@ byte-at-requires-4 : tie.Need-byte-at-requires-4
 byte-at-requires-4 c κs = search needs
 
 returns-3 : tie.Need-returns-3
-returns-3 c = let b = c .before .before .before .before in
-    rw (sym (b .before .before .before .before .is-framed .ensures) ∙ not-false _ (b .before .before .before .if1 .left), sym (b .before .before .is-reply .ensures) ∙ not-false _ (b .before .if2 .left), ← b .byte-at .ensures, ← c .before .before .before .from-byte .ensures, c .before .e .given .1)
+returns-3 c =
+    let from-byte = c .before .before .before .from-byte in
+    let b = c .before .before .before .before in
+    rw
+    (sym (b .before .before .before .before .is-framed .ensures) ∙ not-false _ (b .before .before .before .if1 .left), sym (b .before .before .is-reply .ensures) ∙ not-false _ (b .before .if2 .left), ← b .byte-at .ensures, ← from-byte .ensures, c .before .e .given .1)
 
 returns-4 : tie.Need-returns-4
-returns-4 c = let b = c .before .before .before .before .before .before .before .before in
-    rw (sym (b .before .before .before .before .is-framed .ensures) ∙ not-false _ (b .before .before .before .if1 .left), sym (b .before .before .is-reply .ensures) ∙ not-false _ (b .before .if2 .left), ← b .byte-at .ensures, ← c .before .before .before .before .before .before .before .from-byte .ensures, c .before .before .before .before .before .device .given .1, c .before .before .from-packed .ensures, c .before .before .before .byte-at2 .ensures, c .before .byte-at3 .ensures, c .byte-at4 .ensures)
+returns-4 c =
+    let from-byte = c .before .before .before .before .before .before .before .from-byte in
+    let device = c .before .before .before .before .before .device in
+    let from-packed = c .before .before .from-packed in
+    let byte-at2 = c .before .before .before .byte-at2 in
+    let b = c .before .before .before .before .before .before .before .before in
+    rw
+    (sym (b .before .before .before .before .is-framed .ensures) ∙ not-false _ (b .before .before .before .if1 .left), sym (b .before .before .is-reply .ensures) ∙ not-false _ (b .before .if2 .left), ← b .byte-at .ensures, ← from-byte .ensures, device .given .1, from-packed .ensures, byte-at2 .ensures, c .before .byte-at3 .ensures, c .byte-at4 .ensures)
 
 pub parse-reply-spec : {M : Type 1} → statement M
 parse-reply-spec =

@@ -89,10 +89,16 @@ same-length : tie.Need-same-length
 same-length c = simp length-set
 
 returns-3 : tie.Need-returns-3
-returns-3 c = let a = c .before .before .before .before .before .before .before .args in
+returns-3 c =
+    let device-in-range = c .before .before .before .before .device-in-range in
+    let if1 = c .before .before .before .if1 in
+    let if2 = c .before .before .if2 in
+    let to-byte = c .before .before .before .before .before .to-byte in
+    let a = c .before .before .before .before .before .before .before .args in
     let d = a .identity .device in
-    let ok : deviceInRange d ≡ true = sym (c .before .before .before .before .device-in-range .ensures) ∙ not-false _ (c .before .before .before .if1 .left) in
-    went-on (deviceInRange d) 5 (deviceByte d ∷ []) _ _ (a .out .now) _ ok (stored (replyBytes (a .identity)) (a .out .now) _ 17 refl (c .before .before .if2 .left) (rw (c .before .before .before .before .before .to-byte .ensures, c .to-packed .ensures)))
+    let ok : deviceInRange d ≡ true = sym (device-in-range .ensures) ∙ not-false _ (if1 .left) in
+    went-on (deviceInRange d) 5 (deviceByte d ∷ []) _ _ (a .out .now) _ ok
+    (stored (replyBytes (a .identity)) (a .out .now) _ 17 refl (if2 .left) (rw (to-byte .ensures, c .to-packed .ensures)))
 
 pub reply-into-spec : {M : Type 1} → statement M
 reply-into-spec =

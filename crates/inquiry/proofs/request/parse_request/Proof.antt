@@ -15,7 +15,10 @@ is-request-requires : tie.Need-is-request-requires
 is-request-requires c κs = search needs
 
 returns-2 : tie.Need-returns-2
-returns-2 c = rw (sym (c .before .before .before .is-framed .ensures) ∙ not-false _ (c .before .before .if1 .left), sym (c .before .is-request .ensures) ∙ not-true _ (c .if2 .taken))
+returns-2 c =
+    let is-framed = c .before .before .before .is-framed in
+    let if1 = c .before .before .if1 in
+    rw (sym (is-framed .ensures) ∙ not-false _ (if1 .left), sym (c .before .is-request .ensures) ∙ not-true _ (c .if2 .taken))
 
 byte-at-requires : tie.Need-byte-at-requires
 byte-at-requires c κs = search needs
@@ -24,8 +27,13 @@ from-byte-requires : tie.Need-from-byte-requires
 from-byte-requires c κs = search needs
 
 returns-3 : tie.Need-returns-3
-returns-3 c = c .from-byte .ensures
-    ∙ rw (sym (c .before .before .before .before .before .is-framed .ensures) ∙ not-false _ (c .before .before .before .before .if1 .left), sym (c .before .before .before .is-request .ensures) ∙ not-false _ (c .before .before .if2 .left), c .before .byte-at .ensures)
+returns-3 c =
+    let is-framed = c .before .before .before .before .before .is-framed in
+    let if1 = c .before .before .before .before .if1 in
+    let is-request = c .before .before .before .is-request in
+    let if2 = c .before .before .if2 in
+    c .from-byte .ensures
+    ∙ rw (sym (is-framed .ensures) ∙ not-false _ (if1 .left), sym (is-request .ensures) ∙ not-false _ (if2 .left), c .before .byte-at .ensures)
 
 pub parse-request-spec : {M : Type 1} → statement M
 parse-request-spec =

@@ -51,9 +51,13 @@ same-length : tie.Need-same-length
 same-length c = search needs
 
 returns-3 : tie.Need-returns-3
-returns-3 c = let a = c .before .before .before .before .before .args in
-    let ok : deviceInRange (a .device) ≡ true = sym (c .before .before .device-in-range .ensures) ∙ not-false _ (c .before .if1 .left) in
-    went-on (deviceInRange (a .device)) 5 (deviceByte (a .device) ∷ []) _ _ (a .out .now) _ ok (stored (requestBytes (a .device)) (a .out .now) _ 6 refl (c .if2 .left) (rw (c .before .before .before .to-byte .ensures)))
+returns-3 c =
+    let device-in-range = c .before .before .device-in-range in
+    let to-byte = c .before .before .before .to-byte in
+    let a = c .before .before .before .before .before .args in
+    let ok : deviceInRange (a .device) ≡ true = sym (device-in-range .ensures) ∙ not-false _ (c .before .if1 .left) in
+    went-on (deviceInRange (a .device)) 5 (deviceByte (a .device) ∷ []) _ _ (a .out .now) _ ok
+    (stored (requestBytes (a .device)) (a .out .now) _ 6 refl (c .if2 .left) (rw (to-byte .ensures)))
 
 pub request-into-spec : {M : Type 1} → statement M
 request-into-spec =

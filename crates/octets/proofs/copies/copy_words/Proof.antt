@@ -33,14 +33,18 @@ loop-less : tie.Need-loop-less Inv-loop μ-loop
 loop-less c = omega arith
 
 loop-again : tie.Need-loop-again Inv-loop μ-loop
-loop-again c = let a = (c .before .before .before .before .before .before .before .before .before .args) in
+loop-again c =
+    let shared-slice-known = c .before .before .before .before .before .before .before .before .shared-slice-known in
+    let put-word = c .before .before .put-word in
+    let pre-there = c .before .before .before .before .before .before .before .before .before .pre in
+    let a = (c .before .before .before .before .before .before .before .before .before .args) in
     let l = (c .before .before .before .before .before .before .loop) in
-    let bytes : ((i : ℕ) → getD (a .from .now) i 0 < 256) = λ i. omega (arith, (c .before .before .before .before .before .before .before .before .shared-slice-known) .given i) in
+    let bytes : ((i : ℕ) → getD (a .from .now) i 0 < 256) = λ i. omega (arith, shared-slice-known .given i) in
     let w = (c .before .before .before .before .word-at) in (
       omega arith,
       l .inv .1,
-      (c .before .before .put-word) .ensures ∙ word-stored (a .from .now) (l .to) (l .w * 8) (l .w * 8) (w .result) bytes (w .ensures)
-          ∙ copied-eight (a .from .now) (a .to .now) (l .to) (l .w * 8) ((l .w + 1) * 8) (omega arith) (omega arith) (c .before .before .before .before .before .before .before .before .before .pre) (l .inv .2),
+      put-word .ensures ∙ word-stored (a .from .now) (l .to) (l .w * 8) (l .w * 8) (w .result) bytes (w .ensures)
+          ∙ copied-eight (a .from .now) (a .to .now) (l .to) (l .w * 8) ((l .w + 1) * 8) (omega arith) (omega arith) pre-there (l .inv .2),
       (c .before .to) .given ∙ l .inv .3,
     )
 
@@ -48,7 +52,9 @@ same-length : tie.Need-same-length Inv-loop μ-loop
 same-length c = (c .before .loop) .inv .3
 
 returns : tie.Need-returns Inv-loop μ-loop
-returns c = let l = (c .before .loop) in let all : l .w ≡ length ((c .before .before .before .before .args) .from .now) / 8 = omega arith in l .inv .2 ∙ ap (λ (n : ℕ). copied ((c .before .before .before .before .args) .from .now) ((c .before .before .before .before .args) .to .now) (n * 8)) all
+returns c =
+    let a = c .before .before .before .before .args in
+    let l = (c .before .loop) in let all : l .w ≡ length (a .from .now) / 8 = omega arith in l .inv .2 ∙ ap (λ (n : ℕ). copied (a .from .now) (a .to .now) (n * 8)) all
 
 pub copy-words-spec : {M : Type 1} → statement M
 copy-words-spec =

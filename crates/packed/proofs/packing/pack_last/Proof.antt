@@ -1,85 +1,99 @@
--- `pack_last` meets its contract: after i turns i raw bytes are in place and their top bits gathered; the top bits are stored last.
-use Rattle.packed.proofs.Groups.{Packing, packing-none, packing-more, packing-done}
-use borrow.Author.Needs.{needs}
-use lib.ListN.{length-set}
+-- `pack_last` meets its contract: the group of the seven bytes taken out is the group that they make in their place.
+use Rattle.packed.proofs.Groups.{group-taken}
+use Rattle.laws.specs.Window.{window}
+use lib.ListN.{getD}
 use native.Mathlib.Omega.{arith}
-use Prim.Native.Nat.{_-_}
+use Prim.Native.Nat.{ℕ, _+_}
+use mathlib.Core.List.{List}
+use mathlib.Core.Path.{_≡_, ap, _∙_}
+use borrow.Author.Needs.{needs}
 use Rattle.packed.proofs.packing.pack_last.Statement.{statement}
 use Rattle.packed.proofs.packing.pack_last.Tie as tie
 
-abbrev Inv-loop : tie.InvT-loop
-Inv-loop raw from out₀ at high₀ i₀ out high i = Packing raw from out₀ at out high i
-
-abbrev μ-loop : tie.MeasureT-loop
-μ-loop raw from out₀ at high₀ i₀ out high i = 7 - i
-
-loop-holds : tie.Need-loop-holds Inv-loop μ-loop
-loop-holds c = packing-none (c .before .before .args .raw .now) (c .before .before .args .from) (c .before .before .args .out .now) (c .before .before .args .at)
-
-add-byte-at : tie.Need-add-byte-at Inv-loop μ-loop
-add-byte-at c = omega arith
-
-byte-at-requires : tie.Need-byte-at-requires Inv-loop μ-loop
+byte-at-requires : tie.Need-byte-at-requires
 byte-at-requires c κs = search needs
 
-with-top-bit-requires : tie.Need-with-top-bit-requires Inv-loop μ-loop
-with-top-bit-requires c κs = (c .before .loop-test .taken, c .before .before .loop .inv .small)
+add-byte-at : tie.Need-add-byte-at
+add-byte-at c = search needs
 
-low-seven-requires : tie.Need-low-seven-requires Inv-loop μ-loop
-low-seven-requires c κs = search needs
+byte-at-requires-2 : tie.Need-byte-at-requires-2
+byte-at-requires-2 c κs = search needs
 
-add-out : tie.Need-add-out Inv-loop μ-loop
-add-out c = omega arith
+add-byte-at-2 : tie.Need-add-byte-at-2
+add-byte-at-2 c = search needs
 
-add-out-2 : tie.Need-add-out-2 Inv-loop μ-loop
-add-out-2 c = omega arith
+byte-at-requires-3 : tie.Need-byte-at-requires-3
+byte-at-requires-3 c κs = search needs
 
-slice-write-out : tie.Need-slice-write-out Inv-loop μ-loop
-slice-write-out c = omega (arith, c .before .before .before .before .loop .inv .same)
+add-byte-at-3 : tie.Need-add-byte-at-3
+add-byte-at-3 c = search needs
 
-add-i : tie.Need-add-i Inv-loop μ-loop
-add-i c = omega arith
+byte-at-requires-4 : tie.Need-byte-at-requires-4
+byte-at-requires-4 c κs = search needs
 
-loop-less : tie.Need-loop-less Inv-loop μ-loop
-loop-less c = omega arith
+add-byte-at-4 : tie.Need-add-byte-at-4
+add-byte-at-4 c = search needs
 
-loop-again : tie.Need-loop-again Inv-loop μ-loop
-loop-again c = let a = c .before .before .before .before .before .before .before .args in
-    let l = c .before .before .before .before .loop in
-    let b = c .before .before .byte-at in
-    packing-more (a .raw .now) (a .from) (a .out .now) (a .at) (l .out) (l .high) (l .i) (b .result)
-    (c .low-seven .result) (c .before .with-top-bit .result) (l .inv)
-    (c .before .before .before .before .before .before .before .pre .1) (c .before .before .before .loop-test .taken)
-    (b .ensures) (omega (arith, b .ok)) (c .low-seven .ensures) (c .before .with-top-bit .ensures)
+byte-at-requires-5 : tie.Need-byte-at-requires-5
+byte-at-requires-5 c κs = search needs
 
-slice-write-out-2 : tie.Need-slice-write-out-2 Inv-loop μ-loop
-slice-write-out-2 c = omega (arith, c .before .loop .inv .same)
+add-byte-at-5 : tie.Need-add-byte-at-5
+add-byte-at-5 c = search needs
 
-same-length : tie.Need-same-length Inv-loop μ-loop
-same-length c = simp length-set (c .before .loop .inv .same)
+byte-at-requires-6 : tie.Need-byte-at-requires-6
+byte-at-requires-6 c κs = search needs
 
-returns : tie.Need-returns Inv-loop μ-loop
-returns c = let a = c .before .before .before .before .args in
-    let l = c .before .loop in
-    packing-done (a .raw .now) (a .from) (a .out .now) (a .at) (l .out) (l .high) (l .i) (l .inv) (c .before .before .before .before .pre .1) (c .loop-test .left)
+add-byte-at-6 : tie.Need-add-byte-at-6
+add-byte-at-6 c = search needs
+
+byte-at-requires-7 : tie.Need-byte-at-requires-7
+byte-at-requires-7 c κs = search needs
+
+slice-aggregate-pack-group : tie.Need-slice-aggregate-pack-group
+slice-aggregate-pack-group c = search needs
+
+pack-group-requires : tie.Need-pack-group-requires
+pack-group-requires c κs = search needs
+
+same-length : tie.Need-same-length
+same-length c = search needs
+
+returns : tie.Need-returns
+returns c =
+    let seventh = c .before .before .before .before .before in
+    let sixth = seventh .before in
+    let fifth = sixth .before in
+    let fourth = fifth .before in
+    let third = fourth .before in
+    let second = third .before in
+    let first = second .before in
+    let a = first .before .before .before .args in
+    let place : a .from ≡ a .from + 0 = omega arith in
+    c .before .before .pack-group .ensures
+    ∙ ap (λ (xs : List ℕ). window (a .out .now) (a .at) xs)
+    (group-taken (a .raw .now) (a .from) (first .byte-at .result) (second .byte-at2 .result) (third .byte-at3 .result) (fourth .byte-at4 .result)
+    (fifth .byte-at5 .result) (sixth .byte-at6 .result) (seventh .byte-at7 .result)
+    (first .byte-at .ensures ∙ ap (λ (n : ℕ). getD (a .raw .now) n 0) place) (second .byte-at2 .ensures) (third .byte-at3 .ensures)
+    (fourth .byte-at4 .ensures) (fifth .byte-at5 .ensures) (sixth .byte-at6 .ensures) (seventh .byte-at7 .ensures))
 
 pub pack-last-spec : {M : Type 1} → statement M
 pack-last-spec =
     tie.close
     (tie.spec
-    Inv-loop
-    μ-loop
-    loop-holds
-    add-byte-at
     byte-at-requires
-    with-top-bit-requires
-    low-seven-requires
-    add-out
-    add-out-2
-    slice-write-out
-    add-i
-    loop-less
-    loop-again
-    slice-write-out-2
+    add-byte-at
+    byte-at-requires-2
+    add-byte-at-2
+    byte-at-requires-3
+    add-byte-at-3
+    byte-at-requires-4
+    add-byte-at-4
+    byte-at-requires-5
+    add-byte-at-5
+    byte-at-requires-6
+    add-byte-at-6
+    byte-at-requires-7
+    slice-aggregate-pack-group
+    pack-group-requires
     same-length
     returns)

@@ -24,9 +24,12 @@ same-length-2 : tie.Need-same-length-2
 same-length-2 c = search needs
 
 returns : tie.Need-returns
-returns c = let a = (c .before .before .before .before .before .before .before .before .args) in
+returns c =
+    let if1 = c .before .before .before .before .before .if1 in
+    let put-open = c .before .before .before .put-open in
+    let a = c .before .before .before .before .before .before .before .before .args in
     let p = (c .before .before .before .before .before .before .before .before .pre) in
-    start-answers (a .state .now) (p .0) (a .at) (a .store .now) (a .byte) (a .used) _ _ _ ((c .before .before .before .before .before .if1) .taken) ((c .interrupted) .ensures) ((c .before .before .before .put-open) .ensures) refl
+    start-answers (a .state .now) (p .0) (a .at) (a .store .now) (a .byte) (a .used) _ _ _ (if1 .taken) ((c .interrupted) .ensures) (put-open .ensures) refl
 
 put-closed-requires : tie.Need-put-closed-requires
 put-closed-requires c κs = search needs
@@ -44,10 +47,16 @@ same-length-3 : tie.Need-same-length-3
 same-length-3 c = search needs
 
 returns-2 : tie.Need-returns-2
-returns-2 c = let a = (c .before .before .before .before .before .before .before .before .before .before .before .before .before .before .args) in
+returns-2 c =
+    let if2 = c .before .before .before .before .before .before .if2 in
+    let if1 = c .before .before .before .before .before .before .before .before .before .before .before .if1 in
+    let put-middle = c .before .before .before .put-middle in
+    let held = c .before .before .before .before .before .held in
+    let put-closed = c .before .before .before .before .before .before .before .before .before .put-closed in
+    let a = c .before .before .before .before .before .before .before .before .before .before .before .before .before .before .args in
     let p = (c .before .before .before .before .before .before .before .before .before .before .before .before .before .before .pre) in
-    held-answers (a .state .now) (p .0) (a .at) (a .store .now) (a .byte) (a .used) _ _ _ (p .2) ((c .before .before .before .before .before .before .if2) .taken) ((c .before .before .before .before .before .before .before .before .before .before .before .if1) .left) ((c .interrupted2) .ensures)
-    ((c .before .before .before .put-middle) .ensures ∙ ap₂ putMiddle ((c .before .before .before .before .before .held) .ensures) ((c .before .before .before .before .before .before .before .before .before .put-closed) .ensures)) refl
+    held-answers (a .state .now) (p .0) (a .at) (a .store .now) (a .byte) (a .used) _ _ _ (p .2) (if2 .taken) (if1 .left) ((c .interrupted2) .ensures)
+    (put-middle .ensures ∙ ap₂ putMiddle (held .ensures) (put-closed .ensures)) refl
 
 interrupted-by-tune-requires : tie.Need-interrupted-by-tune-requires
 interrupted-by-tune-requires c κs = search needs
@@ -56,9 +65,11 @@ same-length-4 : tie.Need-same-length-4
 same-length-4 c = search needs
 
 returns-3 : tie.Need-returns-3
-returns-3 c = let a = (c .before .before .before .before .before .before .before .before .before .before .args) in
+returns-3 c =
+    let put-closed = c .before .before .before .before .before .put-closed in
+    let a = c .before .before .before .before .before .before .before .before .before .before .args in
     let p = (c .before .before .before .before .before .before .before .before .before .before .pre) in
-    tune-answers (a .state .now) (p .0) (a .at) (a .store .now) (a .byte) (a .used) _ _ _ ((c .before .if3) .taken) ((c .interrupted-by-tune) .ensures) ((c .before .before .before .before .before .put-closed) .ensures) refl
+    tune-answers (a .state .now) (p .0) (a .at) (a .store .now) (a .byte) (a .used) _ _ _ ((c .before .if3) .taken) ((c .interrupted-by-tune) .ensures) (put-closed .ensures) refl
 
 interrupted-requires-3 : tie.Need-interrupted-requires-3
 interrupted-requires-3 c κs = search needs
@@ -67,9 +78,12 @@ same-length-5 : tie.Need-same-length-5
 same-length-5 c = search needs
 
 returns-4 : tie.Need-returns-4
-returns-4 c = let a = (c .before .before .before .before .before .before .before .before .before .before .args) in
+returns-4 c =
+    let if2 = c .before .before .if2 in
+    let put-closed = c .before .before .before .before .before .put-closed in
+    let a = c .before .before .before .before .before .before .before .before .before .before .args in
     let p = (c .before .before .before .before .before .before .before .before .before .before .pre) in
-    undefined-answers (a .state .now) (p .0) (a .at) (a .store .now) (a .byte) (a .used) _ _ _ ((c .before .before .if2) .left) (omega arith) ((c .interrupted3) .ensures) ((c .before .before .before .before .before .put-closed) .ensures) refl
+    undefined-answers (a .state .now) (p .0) (a .at) (a .store .now) (a .byte) (a .used) _ _ _ (if2 .left) (omega arith) ((c .interrupted3) .ensures) (put-closed .ensures) refl
 
 pub broken-spec : {M : Type 1} → statement M
 broken-spec =

@@ -39,10 +39,14 @@ same-length-4 : tie.Need-same-length-4
 same-length-4 c = search needs
 
 returns-2 : tie.Need-returns-2
-returns-2 c = let a = (c .before .before .before .before .before .before .before .before .before .args) in
+returns-2 c =
+    let if1 = c .before .before .before .before .before .before .if1 in
+    let put-closed = c .before .before .before .before .put-closed in
+    let a = c .before .before .before .before .before .before .before .before .before .args in
     let p = (c .before .before .before .before .before .before .before .before .before .pre) in
     end-answers (a .state .now) (p .0) (a .at) (a .store .now) (a .byte) (a .used) _ _ _
-    (end-is (a .byte) (a .at) (p .3) (p .4) (omega (arith, limit-is)) (⊎-elim (λ q l h. omega arith) (λ q l h. omega arith) ((c .before .before .before .before .before .before .if1) .came))) (omega (arith, limit-is)) ((c .frame) .ensures) ((c .before .before .before .before .put-closed) .ensures) refl
+    (end-is (a .byte) (a .at) (p .3) (p .4) (omega (arith, limit-is)) (⊎-elim (λ q l h. omega arith) (λ q l h. omega arith) (if1 .came)))
+    (omega (arith, limit-is)) ((c .frame) .ensures) (put-closed .ensures) refl
 
 too-long-requires : tie.Need-too-long-requires
 too-long-requires c κs = search needs
@@ -51,10 +55,13 @@ same-length-5 : tie.Need-same-length-5
 same-length-5 c = search needs
 
 returns-3 : tie.Need-returns-3
-returns-3 c = let a = (c .before .before .before .before .before .before .before .before .before .args) in
+returns-3 c =
+    let if1 = c .before .before .before .before .before .before .if1 in
+    let put-closed = c .before .before .before .before .put-closed in
+    let a = c .before .before .before .before .before .before .before .before .before .args in
     let p = (c .before .before .before .before .before .before .before .before .before .pre) in
     beyond-answers (a .state .now) (p .0) (a .at) (a .store .now) (a .byte) (a .used) _ _ _ (p .3)
-    (⊎-elim (λ q l h. omega arith) (λ q l h. omega arith) ((c .before .before .before .before .before .before .if1) .came)) (omega (arith, limit-is)) ((c .too-long) .ensures) ((c .before .before .before .before .put-closed) .ensures) refl
+    (⊎-elim (λ q l h. omega arith) (λ q l h. omega arith) (if1 .came)) (omega (arith, limit-is)) ((c .too-long) .ensures) (put-closed .ensures) refl
 
 pub ends-spec : {M : Type 1} → statement M
 ends-spec =

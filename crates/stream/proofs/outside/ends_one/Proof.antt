@@ -18,9 +18,12 @@ same-length c = search needs
 
 returns : tie.Need-returns
 returns c =
+    let status-in = c .before .before .before .before .before .before .status-in in
+    let if1 = c .before .before .before .before .before .if1 in
+    let put-waiting = c .before .before .before .put-waiting in
     let a = c .before .before .before .before .before .before .before .before .args in
     let p = c .before .before .before .before .before .before .before .before .pre in
-    channel-of-one (a .state .now) (p .0) (a .held) _ (a .used) (c .before .before .before .before .before .before .status-in .ensures) _ _ (a .only) (p .1) (p .2) (c .before .before .before .before .before .if1 .taken) (c .channel .ensures) (c .before .before .before .put-waiting .ensures)
+    channel-of-one (a .state .now) (p .0) (a .held) _ (a .used) (status-in .ensures) _ _ (a .only) (p .1) (p .2) (if1 .taken) (c .channel .ensures) (put-waiting .ensures)
 
 put-waiting-requires-2 : tie.Need-put-waiting-requires-2
 put-waiting-requires-2 c κs = search needs
@@ -33,9 +36,12 @@ same-length-2 c = search needs
 
 returns-2 : tie.Need-returns-2
 returns-2 c =
+    let status-in = c .before .before .before .before .before .before .status-in in
+    let if1 = c .before .before .before .before .before .if1 in
+    let put-waiting2 = c .before .before .before .put-waiting2 in
     let a = c .before .before .before .before .before .before .before .before .args in
     let p = c .before .before .before .before .before .before .before .before .pre in
-    common-of-one (a .state .now) (p .0) (a .held) _ (a .used) (c .before .before .before .before .before .before .status-in .ensures) _ _ (a .only) (p .1) (p .2) (c .before .before .before .before .before .if1 .left) (c .common .ensures) (c .before .before .before .put-waiting2 .ensures)
+    common-of-one (a .state .now) (p .0) (a .held) _ (a .used) (status-in .ensures) _ _ (a .only) (p .1) (p .2) (if1 .left) (c .common .ensures) (put-waiting2 .ensures)
 
 pub ends-one-spec : {M : Type 1} → statement M
 ends-one-spec =

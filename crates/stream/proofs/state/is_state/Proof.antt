@@ -23,13 +23,21 @@ shared-slice-read-if4 : tie.Need-shared-slice-read-if4
 shared-slice-read-if4 c = search needs
 
 returns-4 : tie.Need-returns-4
-returns-4 c = rw (eq-eqb _ 14 (c .before .before .before .before .before .before .if1 .left), le-leb _ 1 (c .before .before .before .before .if2 .left), le-leb _ 1 (c .before .before .if3 .left), eq-eqb _ 1 (c .if4 .taken))
+returns-4 c =
+    let if1 = c .before .before .before .before .before .before .if1 in
+    let if2 = c .before .before .before .before .if2 in
+    let if3 = c .before .before .if3 in
+    rw (eq-eqb _ 14 (if1 .left), le-leb _ 1 (if2 .left), le-leb _ 1 (if3 .left), eq-eqb _ 1 (c .if4 .taken))
 
 shared-slice-read-result : tie.Need-shared-slice-read-result
 shared-slice-read-result c = search needs
 
 returns-5 : tie.Need-returns-5
-returns-5 c = rw (eq-eqb _ 14 (c .before .before .before .before .before .before .before .if1 .left), le-leb _ 1 (c .before .before .before .before .before .if2 .left), le-leb _ 1 (c .before .before .before .if3 .left), ne-eqb _ 1 (c .before .if4 .left))
+returns-5 c =
+    let if1 = c .before .before .before .before .before .before .before .if1 in
+    let if2 = c .before .before .before .before .before .if2 in
+    let if3 = c .before .before .before .if3 in
+    rw (eq-eqb _ 14 (if1 .left), le-leb _ 1 (if2 .left), le-leb _ 1 (if3 .left), ne-eqb _ 1 (c .before .if4 .left))
 
 pub is-state-spec : {M : Type 1} → statement M
 is-state-spec =

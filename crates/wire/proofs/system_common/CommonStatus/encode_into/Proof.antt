@@ -40,11 +40,14 @@ same-length : tie.Need-same-length
 same-length c = search needs
 
 returns-2 : tie.Need-returns-2
-returns-2 c = let a = c .before .before .before .before .before .before .before .before .before .args in
+returns-2 c =
+    let carries = c .before .before .before .before .before .before .before .carries in
+    let if1 = c .before .before .before .before .before .before .if1 in
+    let a = c .before .before .before .before .before .before .before .before .before .args in
     let s = c .before .before .before .before .to-status in
     let l = c .before .before .before .before .before .encoded-len in
     let p = c .before .before .put in
-    let fits : commonInRange (common (a .self) (a .value)) ≡ true = sym (c .before .before .before .before .before .before .before .carries .ensures) ∙ not-false _ (c .before .before .before .before .before .before .if1 .left) in
+    let fits : commonInRange (common (a .self) (a .value)) ≡ true = sym (carries .ensures) ∙ not-false _ (if1 .left) in
     let same : take (l .result) (s .result ∷ a .value % 128 ∷ a .value / 128 % 128 ∷ []) ≡ commonBytes (common (a .self) (a .value)) =
     rw (l .ensures, s .ensures) (common-bytes (a .self) (a .value) fits) in
     went-on _ 21 (a .value ∷ []) _ (p .result) (a .out .now) (p .last .0) fits
