@@ -26,7 +26,7 @@ prove = .ci/prove $(if $(AS_PROVED),--as-proved)
 need = { .ci/need $(1); case $$? in 0) ;; 1) exit 0 ;; *) exit 1 ;; esac; }
 need_sources = $(call need,"$(ORIGINAL)" "$(SOURCES)/deepmind-midi")
 
-.PHONY: check test kit layout outside test-gate lib bench compare compare-all benchmark stack host test-rust test-host test-stack record recorded monitor test-monitor
+.PHONY: check test kit layout outside test-gate lib bench compare compare-all benchmark stack host test-rust test-host test-stack record recorded monitor test-monitor picture
 
 check: kit
 	@rt check
@@ -92,10 +92,15 @@ host: lib
 	@$(call need,"the C host" gcc); rm -rf target/host && \
 	gcc -std=c99 -Wall -Wextra -Werror -O2 -Iinclude examples/host.c $(LIBRARY) -o target/host
 
+# The picture of the crates, docs/crates.svg, from crates.txt; the tests of compare/ ask that it is current.
+picture:
+	@$(call need,"the picture of the crates" cargo cc); mkdir -p target && \
+	$(CARGO) run $(IN_COMPARE) -p documents -- crates.txt > target/crates.svg && mv target/crates.svg docs/crates.svg
+
 # The tests of compare/.
 test-rust: lib
 	@$(call need,"the tests in Rust" cargo cc); \
-	$(CARGO) test $(IN_COMPARE) -p words -p header -p engine && \
+	$(CARGO) test $(IN_COMPARE) -p words -p header -p engine -p documents && \
 	$(need_sources) && $(CARGO) test $(IN_COMPARE) -p origin -p both -p benchmark
 
 test-host: lib
