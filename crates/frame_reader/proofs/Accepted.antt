@@ -1,4 +1,4 @@
--- What the reader accepts is what the table describes: a frame that is given passed every test on the way.
+-- A frame that is given passed every test of the reader on the way: the tests, put together in records that other proofs take apart.
 use mathlib.Core.Path.{_≡_, refl, ap, sym, subst, _∙_}
 use mathlib.Core.Bool.{Bool, true, false, _&&_, _||_, not}
 use mathlib.Core.List.{List, [], _∷_}
@@ -46,23 +46,23 @@ runFits c p =
     pick (isAny (payloadOf c .run)) (not (eqb ((length p - prefixLength c) % 8) 1))
     (accepted (rawLengthFor c (getD p 0 0)) (length p - prefixLength c) || (optional c && numberedBy (length p)))
 
--- a payload as the table describes it, and the fields that it says
-pub record Payload (c : Command) (p : List ℕ) (f : Fields) : Type 0 where
+-- a payload that passed the tests, and the fields that it says
+pub record TestedPayload (c : Command) (p : List ℕ) (f : Fields) : Type 0 where
   pub says : f ≡ fieldsAt c (numberedBy (length p)) p
   pub fits : allFit (fieldList c (numberedBy (length p))) p 0 ≡ true
   pub long : prefixLength c ≤ length p
   pub exact : carriesRun c ≡ false → length p ≡ prefixLength c
   pub run : carriesRun c ≡ true → runFits c p ≡ true
 
--- a frame as the table describes it, and what it says
-pub record Described (bytes : List ℕ) (r : Record) : Type 0 where
+-- a frame that passed the tests, and what it says
+pub record Tested (bytes : List ℕ) (r : Record) : Type 0 where
   pub ends : framed bytes ≡ true
   pub low : firstHigh (body bytes) ≡ m.None
   pub long : 8 ≤ length bytes
   pub ours : take 4 (drop 1 bytes) ≡ maker
   pub device : deviceOf (getD bytes 5 0) ≡ gives (r .device)
   pub command : commandOf (getD bytes 6 0) ≡ gives (r .command)
-  pub says : Payload (r .command) (payload bytes) (r .fields)
+  pub says : TestedPayload (r .command) (payload bytes) (r .fields)
 
 -- a payload without a run has no pattern number that could be missing
 pub no-option : (c : Command) → carriesRun c ≡ false → optional c ≡ false
@@ -86,7 +86,7 @@ run-given c v p next f e = go (isAny (payloadOf c .run)) e
     go false g =
         (passed len-ok 7 (codeOf c ∷ (prefixLength c + packedLength (rawLengthFor c v)) ∷ length p ∷ []) next f g, passed-on len-ok 7 (codeOf c ∷ (prefixLength c + packedLength (rawLengthFor c v)) ∷ length p ∷ []) next f g)
 
-dump-given : (c : Command) (p : List ℕ) (f : Fields) → carriesRun c ≡ true → readDump c p ≡ gives f → Payload c p f
+dump-given : (c : Command) (p : List ℕ) (f : Fields) → carriesRun c ≡ true → readDump c p ≡ gives f → TestedPayload c p f
 unfolding readRun
 dump-given c p f h e =
     let v : ℕ = getD p 0 0 in
@@ -104,7 +104,7 @@ dump-given c p f h e =
       run = λ q. r .0;
     }
 
-short-given : (c : Command) (p : List ℕ) (f : Fields) → carriesRun c ≡ false → readShort c p ≡ gives f → Payload c p f
+short-given : (c : Command) (p : List ℕ) (f : Fields) → carriesRun c ≡ false → readShort c p ≡ gives f → TestedPayload c p f
 short-given c p f h e =
     let wrong : List ℕ = codeOf c ∷ prefixLength c ∷ length p ∷ [] in
     let e1 = passed-on (eqb (length p) (prefixLength c)) 7 wrong (readFields c false p) f e in
@@ -120,17 +120,17 @@ short-given c p f h e =
       run = λ q. let z : _≡_ {A = ℕ} 0 1 = cc in absurd (omega arith);
     }
 
-payload-given : (c : Command) (p : List ℕ) (f : Fields) → readPayload c p ≡ gives f → Payload c p f
+payload-given : (c : Command) (p : List ℕ) (f : Fields) → readPayload c p ≡ gives f → TestedPayload c p f
 payload-given c p f e = go (carriesRun c) refl e
   where
-    go : (t : Bool) → carriesRun c ≡ t → pick t (readDump c p) (readShort c p) ≡ gives f → Payload c p f
+    go : (t : Bool) → carriesRun c ≡ t → pick t (readDump c p) (readShort c p) ≡ gives f → TestedPayload c p f
     go true h g = dump-given c p f h g
     go false h g = short-given c p f h g
 
--- the reader accepts only what the table describes
-pub described : (bytes : List ℕ) (r : Record) → readRecord bytes ≡ gives r → Described bytes r
+-- the reader accepts only what passes
+pub tested : (bytes : List ℕ) (r : Record) → readRecord bytes ≡ gives r → Tested bytes r
 unfolding readRecord
-described bytes r e =
+tested bytes r e =
     let e1 = passed-on (framed bytes) 1 [] (whenSevenBit (body bytes) (readHeader bytes)) r e in
     let h = no-high (firstHigh (body bytes)) (readHeader bytes) r e1 in
     let first4 : List ℕ = getD bytes 1 0 ∷ getD bytes 2 0 ∷ getD bytes 3 0 ∷ getD bytes 4 0 ∷ [] in
@@ -147,5 +147,5 @@ described bytes r e =
       ours = same-is (take 4 (drop 1 bytes)) maker (passed (sameBytes (take 4 (drop 1 bytes)) maker) 4 first4 (readCommand bytes) r e2);
       device = d .1 ∙ ap (λ (x : Record). gives (x .device)) same;
       command = c .1 ∙ ap (λ (x : Record). gives (x .command)) same;
-      says = subst (λ (x : Record). Payload (x .command) (payload bytes) (x .fields)) same (payload-given (c .0) (payload bytes) (f .0) (f .1));
+      says = subst (λ (x : Record). TestedPayload (x .command) (payload bytes) (x .fields)) same (payload-given (c .0) (payload bytes) (f .0) (f .1));
     }

@@ -25,7 +25,7 @@ use Rattle.frame_reader.specs.declared.Place.{Place}
 use Rattle.frame_reader.specs.declared.Located.{Located}
 use Rattle.frame_reader.specs.Reader.{payload, readRecord, runIn, runOf, placeIn, runPlace, withPlace, readLocated}
 use Rattle.frame_reader.proofs.payload.Tests.{numbered-short, optional-is}
-use Rattle.frame_reader.proofs.Accepted.{Described, described}
+use Rattle.frame_reader.proofs.Accepted.{Tested, tested}
 
 -- dropping from a part of a list
 pub drop-take : {A : Type 0} (n m : ℕ) (l : List A) → drop n (take m l) ≡ take (m - n) (drop n l)
@@ -39,7 +39,7 @@ drop-take (suc n) (suc m) (x ∷ l) =
     rw z (drop-take n m l)
 
 -- a payload that names its pattern has two bytes
-numbered-long : (n : ℕ) → numberedBy n ≡ true → 2 ≤ n
+pub numbered-long : (n : ℕ) → numberedBy n ≡ true → 2 ≤ n
 numbered-long n h = go (ltb n 2) refl
   where
     go : (t : Bool) → ltb n 2 ≡ t → 2 ≤ n
@@ -64,7 +64,7 @@ same-list c b = go (optional c)
     go true = refl
     go false = refl
 
-module _ (bytes : List ℕ) (r : Record) (d : Described bytes r) where
+module _ (bytes : List ℕ) (r : Record) (d : Tested bytes r) where
   -- the fields that an accepted frame's bytes are read by
   pub own-list : fieldList (r .command) (r .fields .«has_pattern») ≡ fieldList (r .command) (numberedBy (length (payload bytes)))
   own-list =
@@ -90,7 +90,7 @@ module _ (bytes : List ℕ) (r : Record) (h : gives r ≡ readRecord bytes) wher
   -- the prefix is there in every accepted frame
   pub prefix-fits : 8 + length (fieldList (r .command) (r .fields .«has_pattern»)) ≤ length bytes
   prefix-fits =
-      let d = described bytes r (sym h) in
+      let d = tested bytes r (sym h) in
       omega (arith, d .long, prefix-there bytes r d)
 
   -- the run ends ahead of the closing F7
@@ -101,7 +101,7 @@ module _ (bytes : List ℕ) (r : Record) (h : gives r ≡ readRecord bytes) wher
       go true c =
           let n = length (fieldList (r .command) (r .fields .«has_pattern»)) in
           let p : length (drop n (payload bytes)) ≡ length (payload bytes) - n = length-drop n (payload bytes) in
-          rw (c, p, length-payload bytes r (described bytes r (sym h))) (omega (arith, prefix-fits))
+          rw (c, p, length-payload bytes r (tested bytes r (sym h))) (omega (arith, prefix-fits))
       go false c = rw c
 
   pub run-within : placeIn r + length (runIn r bytes) ≤ length bytes

@@ -29,15 +29,15 @@ body-is : (xs : List ℕ) → body (0xF0 ∷ xs ++ (0xF7 ∷ [])) ≡ xs
 body-is xs = take-at xs (0xF7 ∷ []) (length (0xF0 ∷ xs ++ (0xF7 ∷ [])) - 2) (omega (arith, length-append xs (0xF7 ∷ [])))
 
 -- a device in range and a code are below 80
-device-low : (x : DeviceId) → deviceInRange x ≡ true → deviceByte x < 0x80
+pub device-low : (x : DeviceId) → deviceInRange x ≡ true → deviceByte x < 0x80
 device-low (d.Unit n) h = omega (arith, ltb-true n 16 h)
 device-low d.Broadcast h = omega arith
 
-code-low : (c : Command) → codeOf c < 0x80
+pub code-low : (c : Command) → codeOf c < 0x80
 code-low c = ltb-true (codeOf c) 0x80 (of-every (λ j. ltb (codeOf j) 0x80) refl c)
 
 -- the row's body
-row-body-low : (device code : ℕ) (prefix run : List ℕ) → device < 0x80 → code < 0x80 → firstHigh (prefix ++ run) ≡ m.None
+pub row-body-low : (device code : ℕ) (prefix run : List ℕ) → device < 0x80 → code < 0x80 → firstHigh (prefix ++ run) ≡ m.None
     → firstHigh (body (row device code prefix run)) ≡ m.None
 row-body-low device code prefix run h g low =
     let xs : List ℕ = 0x00 ∷ 0x20 ∷ 0x32 ∷ 0x20 ∷ device ∷ code ∷ (prefix ++ run) in

@@ -1,5 +1,4 @@
--- The reader accepts every frame that the table describes, because each of its tests is one of the description's parts. With the other
--- direction, that it accepts nothing else, the two are the same; so no reader that turns down all, or always sees 03, meets it.
+-- The reader accepts every frame that passes its tests one by one: none of them looks at more than its own part.
 use mathlib.Core.Path.{_≡_, refl, ap, sym, _∙_}
 use mathlib.Core.Bool.{Bool, true, false, _&&_, _||_, not}
 use mathlib.Core.List.{List, [], _∷_}
@@ -24,7 +23,7 @@ use Rattle.frame_reader.specs.declared.Record.{Record}
 use Rattle.frame_reader.specs.Payload.{accepted, numberedBy, prefixLength, early, isAny, whenRun, versionIn, readFields, readShort, readRun, readDump, readPayload}
 use Rattle.frame_reader.specs.Reader.{payload, maker, readRecord}
 use Rattle.message.proofs.prefix.ByKind.{version-leads}
-use Rattle.frame_reader.proofs.Accepted.{Payload, Described, runFits, described, fit-given, no-option}
+use Rattle.frame_reader.proofs.Accepted.{TestedPayload, Tested, runFits, fit-given, no-option}
 
 -- a dump's first byte is its version
 version-fits : (c : Command) (b : Bool) (p : List ℕ) → carriesRun c ≡ true → allFit (fieldList c b) p 0 ≡ true → versionIn p ≡ true
@@ -48,7 +47,7 @@ run-passes c p next h = go (isAny (payloadOf c .run)) h
     go true g = rw g
     go false g = rw g
 
-payload-accepted : (c : Command) (p : List ℕ) (f : Fields) → Payload c p f → readPayload c p ≡ gives f
+payload-accepted : (c : Command) (p : List ℕ) (f : Fields) → TestedPayload c p f → readPayload c p ≡ gives f
 unfolding readRun
 payload-accepted c p f d = go (carriesRun c) refl
   where
@@ -62,13 +61,9 @@ payload-accepted c p f d = go (carriesRun c) refl
         let same : readFields c (numberedBy (length p)) p ≡ readFields c false p = rw (no-option c h) in
         rw (eq-eqb (length p) (prefixLength c) (d .exact h)) (sym same ∙ fields)
 
--- the reader accepts what the table describes
-pub accepted-if-described : (bytes : List ℕ) (r : Record) → Described bytes r → readRecord bytes ≡ gives r
+-- the whole reader
+pub accepted-if-tested : (bytes : List ℕ) (r : Record) → Tested bytes r → readRecord bytes ≡ gives r
 unfolding readRecord
-accepted-if-described bytes r d =
+accepted-if-tested bytes r d =
     let ours : sameBytes (take 4 (drop 1 bytes)) maker ≡ true = ap (λ (l : List ℕ). sameBytes l maker) (d .ours) in
     rw (d .ends, d .low, le-leb 8 (length bytes) (d .long), ours, d .device, d .command, payload-accepted (r .command) (payload bytes) (r .fields) (d .says))
-
--- and nothing else
-pub described-if-accepted : (bytes : List ℕ) (r : Record) → readRecord bytes ≡ gives r → Described bytes r
-described-if-accepted = described

@@ -1,4 +1,5 @@
--- A message that the reader gives is written as the bytes that it was read from, so it reads back as itself: its head holds the same fields.
+-- A message that the reader gives is written as the bytes that it was read from, so it reads back as itself: its head holds the same fields, and
+-- its run is the same bytes.
 use mathlib.Core.Path.{_≡_, refl, ap, ap₂, sym, subst, _∙_}
 use mathlib.Core.Bool.{Bool, true, false}
 use mathlib.Core.List.{List, [], _∷_}
@@ -24,7 +25,7 @@ use Rattle.message.specs.Prefix.{fieldList, fieldsAt, allFit}
 use Rattle.frame_reader.specs.declared.Record.{Record}
 use Rattle.frame_reader.specs.Payload.{numberedBy}
 use Rattle.frame_reader.specs.Reader.{payload, readRecord, frameOf, parsed, runOf}
-use Rattle.frame_reader.proofs.Accepted.{Described, described}
+use Rattle.frame_reader.proofs.Accepted.{Tested, tested}
 use Rattle.frame_writer.specs.Writer.{fieldsWrite, frameWrite}
 use Rattle.frames.proofs.RoundTrip.{written-again}
 
@@ -86,7 +87,7 @@ fields-back k.ChordMemoryDumpResponse b p h = refl
 fields-back k.PolyChordMemoryDumpRequest b p h = refl
 fields-back k.PolyChordMemoryDumpResponse b p h = refl
 
-same-fields : (bytes : List ℕ) (r : Record) → Described bytes r → fieldsOf (frameOf r .head) ≡ r .fields
+same-fields : (bytes : List ℕ) (r : Record) → Tested bytes r → fieldsOf (frameOf r .head) ≡ r .fields
 same-fields bytes r d =
     let b : Bool = numberedBy (length (payload bytes)) in
     ap (λ (f : Fields). fieldsOf (headFrom (r .command) f)) (d .says .says) ∙ fields-back (r .command) b (payload bytes) (d .says .fits) ∙ sym (d .says .says)
@@ -97,7 +98,7 @@ pub frame-written-again : (bytes : List ℕ) (x : Frame) (room : ℕ) → parsed
 frame-written-again bytes x room e real fits =
     let g = given-first (readRecord bytes) (λ r. gives (frameOf r)) x e in
     let r : Record = g .0 in
-    let d : Described bytes r = described bytes r (g .1) in
+    let d : Tested bytes r = tested bytes r (g .1) in
     let same : frameOf r ≡ x = cc in
     let fields : fieldsWrite (r .device) (commandOfHead (frameOf r .head)) (fieldsOf (frameOf r .head)) (runOf bytes) room ≡ fieldsWrite (r .device) (r .command) (r .fields) (runOf bytes) room =
     ap₂ (λ (c : Command) (f : Fields). fieldsWrite (r .device) c f (runOf bytes) room) (command-back (r .command) (r .fields)) (same-fields bytes r d) in
@@ -105,10 +106,10 @@ frame-written-again bytes x room e real fits =
     (ap (λ (o : Outcome (List ℕ)). unless (deviceInRange (r .device)) 5 (deviceByte (r .device) ∷ []) o) fields
     ∙ rw (code-reads-back (r .command)) at (written-again bytes r room (g .1) real fits))
 
--- and reads back as itself
+-- and reads back as itself, its run included
 pub frame-reads-back : (bytes later : List ℕ) (x : Frame) (room : ℕ) → parsed bytes ≡ gives x → length bytes < 2 ^ 64 → length bytes ≤ room
-    → frameWrite x (runOf bytes) room ≡ gives later → parsed later ≡ gives x
+    → frameWrite x (runOf bytes) room ≡ gives later → (parsed later ≡ gives x) × (runOf later ≡ runOf bytes)
 frame-reads-back bytes later x room e real fits w =
     let once : gives later ≡ gives bytes = sym w ∙ frame-written-again bytes x room e real fits in
     let same : later ≡ bytes = cc in
-    ap parsed same ∙ e
+    (ap parsed same ∙ e, ap runOf same)

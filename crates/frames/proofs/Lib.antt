@@ -4,6 +4,7 @@ pub mod RoundTrip
 pub mod Complete
 pub mod Heads
 pub mod BodyLow
+pub mod Described
 pub mod Reported
 pub mod NamesDropped
 pub mod MarkedRows

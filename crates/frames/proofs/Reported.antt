@@ -16,7 +16,7 @@ use Rattle.framing.specs.Framing.{framed, body, firstHigh}
 use Rattle.framing.specs.declared.MaybeByte.the-variants as m
 use Rattle.frame_reader.specs.declared.Record.{Record}
 use Rattle.frame_reader.specs.Reader.{readRecord}
-use Rattle.frame_reader.proofs.Accepted.{described}
+use Rattle.frame_reader.proofs.Accepted.{tested}
 use Rattle.decoder.specs.State.{limit, fresh}
 use Rattle.damage.specs.Sent.{Frame, bytesOf, sevenBit, tagged, intacts}
 use Rattle.damage.specs.Calls.{singly}
@@ -30,7 +30,7 @@ ends-with l n e =
     sym (take-all (suc n) l all) ∙ take-suc l n 0 last
 
 -- framed bytes are F0, a body and F7
-framed-is : (bytes : List ℕ) → framed bytes ≡ true → bytes ≡ 0xF0 ∷ body bytes ++ (0xF7 ∷ [])
+pub framed-is : (bytes : List ℕ) → framed bytes ≡ true → bytes ≡ 0xF0 ∷ body bytes ++ (0xF7 ∷ [])
 framed-is [] h = let z : _≡_ {A = ℕ} 0 1 = cc in absurd (omega arith)
 framed-is (x ∷ rest) h =
     let outer = both (leb 2 (length (x ∷ rest)) && eqb x 0xF0) (eqb (getD (x ∷ rest) (length (x ∷ rest) - 1) 0) 0xF7) h in
@@ -45,7 +45,7 @@ framed-is (x ∷ rest) h =
     (ends-with rest n (omega arith) ∙ ap (λ (b : ℕ). take n rest ++ (b ∷ [])) last)
 
 -- no high byte: seven bits each
-low-is-seven-bit : (bs : List ℕ) → firstHigh bs ≡ m.None → sevenBit bs ≡ true
+pub low-is-seven-bit : (bs : List ℕ) → firstHigh bs ≡ m.None → sevenBit bs ≡ true
 low-is-seven-bit [] h = refl
 low-is-seven-bit (b ∷ bs) h = go (ltb b 0x80) refl h (low-is-seven-bit bs)
   where
@@ -57,7 +57,7 @@ low-is-seven-bit (b ∷ bs) h = go (ltb b 0x80) refl h (low-is-seven-bit bs)
 pub accepted-is-reported : (bytes : List ℕ) (r : Record) → readRecord bytes ≡ gives r → length bytes ≤ limit → (store : List ℕ) → limit ≤ length store
     → (bytes ≡ bytesOf (Frame (body bytes))) × (singly fresh store bytes ≡ intacts (tagged (Frame (body bytes))))
 accepted-is-reported bytes r h short store room =
-    let d = described bytes r h in
+    let d = tested bytes r h in
     let shape : bytes ≡ bytesOf (Frame (body bytes)) = framed-is bytes (d .ends) in
     let fits : length (bytesOf (Frame (body bytes))) ≤ limit = subst (λ (l : List ℕ). length l ≤ limit) shape short in (
       shape,

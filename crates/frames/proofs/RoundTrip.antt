@@ -28,7 +28,7 @@ use Rattle.message.specs.Prefix.{carriesRun, fieldList, fieldsAt, wire, prefixO
 use Rattle.frame_reader.specs.declared.Record.{Record}
 use Rattle.frame_reader.specs.Payload.{numberedBy, prefixLength}
 use Rattle.frame_reader.specs.Reader.{payload, maker, readRecord, runIn, runOf}
-use Rattle.frame_reader.proofs.Accepted.{Described, described, fit-given, no-option}
+use Rattle.frame_reader.proofs.Accepted.{Tested, tested, fit-given, no-option}
 use Rattle.frame_reader.proofs.RunPlace.{own-list, length-payload, prefix-there}
 use Rattle.frame_writer.specs.Writer.{header, row, ownRun, recordWrite}
 
@@ -68,14 +68,14 @@ exact-list : (c : Command) (b : Bool) → carriesRun c ≡ false → length (fie
 exact-list c b h = rw (no-option c h)
 
 -- fields fit by their bytes alone
-fit-front : (l : List Field) (p q : List ℕ) (i n : ℕ) → i + length l ≤ n → ((j : ℕ) → j < n → getD p j 0 ≡ getD q j 0) → allFit l p i ≡ true → allFit l q i ≡ true
+pub fit-front : (l : List Field) (p q : List ℕ) (i n : ℕ) → i + length l ≤ n → ((j : ℕ) → j < n → getD p j 0 ≡ getD q j 0) → allFit l p i ≡ true → allFit l q i ≡ true
 fit-front [] p q i n h same fit = refl
 fit-front (f ∷ l) p q i n h same fit =
     let b : getD p i 0 ≡ getD q i 0 = same i (omega arith) in
     let here = both (fieldFits f (getD p i 0)) (allFit l p (suc i)) fit .0 in
     rw (← b, here) (fit-front l p q (suc i) n (omega arith) same (both (fieldFits f (getD p i 0)) (allFit l p (suc i)) fit .1))
 
-module _ (bytes : List ℕ) (r : Record) (d : Described bytes r) where
+module _ (bytes : List ℕ) (r : Record) (d : Tested bytes r) where
   abbrev p : List ℕ
   p = payload bytes
 
@@ -150,19 +150,22 @@ module _ (bytes : List ℕ) (r : Record) (d : Described bytes r) where
       ∙ ap (λ (x : List ℕ). take 6 (drop 1 bytes) ++ take (length bytes - 8) x) (drop-drop 6 1 bytes) in
       ap firstHigh whole ∙ high-none-behind (take 6 (drop 1 bytes)) (payload bytes) (ap firstHigh (sym parts) ∙ d .low)
 
-  -- the fields pass the writer's tests
-  pub fields-pass : checkedFields (r .command) (r .fields) ≡ gives (fieldsAt (r .command) (r .fields .«has_pattern») (prefixOf (r .command) (r .fields)))
-  fields-pass =
-      fit-given (fieldList (r .command) (r .fields .«has_pattern»)) (prefixOf (r .command) (r .fields)) 0 _
-      (fit-front (fieldList (r .command) (r .fields .«has_pattern»)) (payload bytes) (prefixOf (r .command) (r .fields)) 0 (length (fieldList (r .command) (r .fields .«has_pattern»))) (omega arith)
+  -- the fields are in range as they are written
+  pub fields-fit : allFit (fieldList (r .command) (r .fields .«has_pattern»)) (prefixOf (r .command) (r .fields)) 0 ≡ true
+  fields-fit =
+      fit-front (fieldList (r .command) (r .fields .«has_pattern»)) (payload bytes) (prefixOf (r .command) (r .fields)) 0 (length (fieldList (r .command) (r .fields .«has_pattern»))) (omega arith)
       (λ i h. sym (ap (λ (l : List ℕ). getD l i 0) prefix-back ∙ getD-take (length (fieldList (r .command) (r .fields .«has_pattern»))) (payload bytes) i 0 h))
-      (ap (λ (l : List Field). allFit l (payload bytes) 0) (own-list bytes r d) ∙ d .says .fits))
+      (ap (λ (l : List Field). allFit l (payload bytes) 0) (own-list bytes r d) ∙ d .says .fits)
+
+  -- so they pass the writer's tests
+  pub fields-pass : checkedFields (r .command) (r .fields) ≡ gives (fieldsAt (r .command) (r .fields .«has_pattern») (prefixOf (r .command) (r .fields)))
+  fields-pass = fit-given (fieldList (r .command) (r .fields .«has_pattern»)) (prefixOf (r .command) (r .fields)) 0 _ fields-fit
 
 -- a message that the reader gives is written as the bytes that it was read from, wherever they fit; and so it reads back as itself
 pub written-again : (bytes : List ℕ) (r : Record) (room : ℕ) → readRecord bytes ≡ gives r → length bytes < 2 ^ 64 → length bytes ≤ room
     → recordWrite (r .device) (codeOf (r .command)) (r .fields) (runOf bytes) room ≡ gives bytes
 written-again bytes r room e real fits =
-    let d : Described bytes r = described bytes r e in
+    let d : Tested bytes r = tested bytes r e in
     let c : Command = r .command in
     let run : List ℕ = runIn r bytes in
     let pre : List ℕ = prefixOf c (r .fields) in
