@@ -6,5 +6,5 @@ pub mod Heads
 pub mod BodyLow
 pub mod Described
 pub mod Reported
-pub mod NamesDropped
+pub mod Dropped
 pub mod MarkedRows
