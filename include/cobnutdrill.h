@@ -221,17 +221,18 @@ typedef struct dm_read_answer {
 dm_read_answer dm_frame_read(const uint8_t *bytes, size_t bytes_len);
 
 /*
- * value: how many bytes dm_frame_write writes for this command and run. DM_NO_RECORD for a has_pattern above 1. Refuses DM_UNKNOWN_COMMAND,
- * DM_LENGTH_OVERFLOW.
+ * value: how many bytes dm_frame_write writes for this command and run. has_pattern is looked at for command 08 alone: there DM_NO_RECORD where
+ * it is above 1. Refuses DM_UNKNOWN_COMMAND, DM_LENGTH_OVERFLOW.
  */
 dm_answer dm_frame_len(uint8_t command, uint8_t has_pattern, size_t run_len);
 
 /*
  * Writes a frame to everyone (everyone 1, unit ignored) or to a unit (everyone 0). Fields and the run that the command lacks are neither tested
- * nor written; a run's length is not tested. value: the count written. DM_NO_RECORD for a flag (everyone, has_pattern) above 1. Refuses
- * DM_INVALID_DEVICE_ID, DM_UNKNOWN_COMMAND, then the command's fields in the order in which they are sent (DM_UNSUPPORTED_PROTOCOL_VERSION,
- * DM_INVALID_INTERFACE, DM_BANK_OUT_OF_RANGE, DM_PROGRAM_OUT_OF_RANGE, DM_PATTERN_OUT_OF_RANGE), DM_LENGTH_OVERFLOW, DM_BUFFER_TOO_SMALL, and
- * DM_NOT_SEVEN_BIT for the first byte of the payload that is 80 or above.
+ * nor written, has_pattern among them for every command but 08; a run's length is not tested. value: the count written. DM_NO_RECORD, ahead of
+ * every refusal, for everyone above 1 and for command 08 with has_pattern above 1. Refuses DM_INVALID_DEVICE_ID, DM_UNKNOWN_COMMAND, then the
+ * command's fields in the order in which they are sent (DM_UNSUPPORTED_PROTOCOL_VERSION, DM_INVALID_INTERFACE, DM_BANK_OUT_OF_RANGE,
+ * DM_PROGRAM_OUT_OF_RANGE, DM_PATTERN_OUT_OF_RANGE), DM_LENGTH_OVERFLOW, DM_BUFFER_TOO_SMALL, and DM_NOT_SEVEN_BIT for the first byte of the
+ * payload that is 80 or above.
  */
 dm_answer dm_frame_write(uint8_t everyone, uint8_t unit, uint8_t command, uint8_t free, uint8_t version, uint8_t bank, uint8_t program,
                          uint8_t last, uint8_t pattern, uint8_t has_pattern, uint8_t interface, uint8_t rx, uint8_t tx, const uint8_t *run,

@@ -13,17 +13,33 @@ fn write(everyone: u8, unit: u8, command: u8, has_pattern: u8, run: &[u8], out: 
     ffi::frame_write(everyone, unit, command, 0, 6, 0, 0, 0, 0, has_pattern, 0, 0, 0, run, out)
 }
 
-/// A flag above 1 is answered ahead of every refusal, and nothing is written.
+/// A flag above 1 is answered ahead of every refusal, and nothing is written; has_pattern is a flag of command 08.
 #[test]
 fn flags() {
     for flag in 2..=255 {
         let mut out = [0x55; 64];
         assert_eq!(write(flag, 99, 99, 0, &[], &mut out), NOTHING);
-        assert_eq!(write(0, 99, 99, flag, &[], &mut out), NOTHING);
-        assert_eq!(ffi::frame_len(99, flag, 0), NOTHING);
+        assert_eq!(write(0, 99, 8, flag, &[], &mut out), NOTHING);
+        assert_eq!(ffi::frame_len(8, flag, usize::MAX), NOTHING);
         assert_eq!(ffi::request_write(flag, 99, &mut out), NOTHING);
         assert_eq!(ffi::reply_write(flag, 99, 0, 0, 0, 0, &mut out), NOTHING);
         assert_eq!(out, [0x55; 64]);
+    }
+}
+
+/// A command without a pattern number takes any has_pattern, and answers and writes what it does for 0.
+#[test]
+fn has_pattern_of_other_commands() {
+    for command in (0..=255).filter(|command| *command != 8) {
+        let mut plain = [0x55; 64];
+        let told = ffi::frame_len(command, 0, 9);
+        let written = write(0, 0, command, 0, &[1; 9], &mut plain);
+        for flag in 1..=255 {
+            let mut out = [0x55; 64];
+            assert_eq!(ffi::frame_len(command, flag, 9), told, "{command}");
+            assert_eq!(write(0, 0, command, flag, &[1; 9], &mut out), written, "{command}");
+            assert_eq!(out, plain, "{command}");
+        }
     }
 }
 

@@ -1,13 +1,19 @@
 -- Frames to be written, at the boundary: every field a plain number.
+use mathlib.Core.Bool.{Bool, _||_, not}
 use Prim.Native.Nat.{ℕ}
-use lib.Dec.{eqb}
+use lib.Dec.{leb, eqb}
 use Rattle.refusal.specs.Outcome.{Outcome, andThen}
 use Rattle.command.specs.Command.{commandOf}
 use Rattle.message.specs.declared.fields.Fields.{Fields}
 use Rattle.message.specs.Head.{headFrom}
 use Rattle.frame_writer.specs.Writer.{headLength}
 
--- plain numbers as fields
+-- does has_pattern name a record? "08 v [pattern] run" has a number or none, 1 or 0. No other command has the field, and what a command lacks is
+-- not checked: there every value does
+abbrev pub patternFlagFits : ℕ → ℕ → Bool
+patternFlagFits command has = leb has 1 || not (eqb command 0x08)
+
+-- plain numbers as fields; a flag other than 1 says no pattern
 abbrev pub fieldsFrom : ℕ → ℕ → ℕ → ℕ → ℕ → ℕ → ℕ → ℕ → ℕ → ℕ → Fields
 fieldsFrom free version bank program last pattern has interface rx tx =
     record { free = free; version = version; bank = bank; program = program; last = last; pattern = pattern; «has_pattern» = eqb has 1; interface = interface; rx = rx; tx = tx }

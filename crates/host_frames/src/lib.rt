@@ -4,7 +4,7 @@ ghost use Rattle.frame_writer.specs.Writer.{recordWrite};
 ghost use Rattle.host_answer.specs.Answer.{answerOf, noRecord, SendsIf};
 ghost use Rattle.host_answer.specs.Device.{deviceFrom};
 ghost use Rattle.host_frames.specs.Frames.{frameNumbers, readAnswer};
-ghost use Rattle.host_frames.specs.Sent.{fieldsFrom, lengthAsked};
+ghost use Rattle.host_frames.specs.Sent.{fieldsFrom, lengthAsked, patternFlagFits};
 ghost use Rattle.laws.specs.Choice.{pick};
 ghost use Rattle.refusal.specs.Outcome.{refusal};
 ghost use lib.Dec.{leb};
@@ -120,13 +120,23 @@ pub extern "C" fn dm_frame_read(bytes: &[u8]) -> ReadAnswer
     }
 }
 
-// How many bytes a message of this command takes beside a run of so many; has_pattern says whether a pattern dump names its pattern. It looks
-// at no other field. NO_RECORD for has_pattern above 1; then refuses 6, 22.
+// Whether has_pattern can be written for this command: 08 takes 0 or 1; other commands lack the field, so that any value does.
+fn pattern_flag_fits(command: u8, has_pattern: u8) -> bool
+    ensures { λ r. ⌜ r ≡ patternFlagFits command «has_pattern» ⌝ }
+{
+    if has_pattern <= 1 {
+        return true;
+    }
+    command != 0x08
+}
+
+// How many bytes a message of this command takes beside a run of so many; has_pattern says whether a pattern dump names its pattern, and is looked
+// at for command 08 alone. It looks at no other field. NO_RECORD, ahead of every refusal, for command 08 with has_pattern above 1; then refuses 6, 22.
 #[no_mangle]
 pub extern "C" fn dm_frame_len(command: u8, has_pattern: u8, run_len: usize) -> Answer
-    ensures { λ r. ⌜ r ≡ pick (leb «has_pattern» 1) (answerOf (lengthAsked command «has_pattern» «run_len»)) noRecord ⌝ }
+    ensures { λ r. ⌜ r ≡ pick (patternFlagFits command «has_pattern») (answerOf (lengthAsked command «has_pattern» «run_len»)) noRecord ⌝ }
 {
-    if 1 < has_pattern {
+    if !pattern_flag_fits(command, has_pattern) {
         return host_answer::no_record();
     }
     match Command::from_byte(command) {
@@ -149,8 +159,8 @@ pub extern "C" fn dm_frame_len(command: u8, has_pattern: u8, run_len: usize) -> 
     }
 }
 
-// Writes a frame. NO_RECORD for everyone or has_pattern above 1; then refuses 5, 6, the fields that the command has in wire order (8, 12, 9, 10, 11),
-// 22, 14, 2. It looks at no run length.
+// Writes a frame. NO_RECORD, ahead of every refusal, for everyone above 1 and for command 08 with has_pattern above 1, which no other command
+// looks at; then refuses 5, 6, the fields that the command has in wire order (8, 12, 9, 10, 11), 22, 14, 2. It looks at no run length.
 #[no_mangle]
 pub extern "C" fn dm_frame_write(
     everyone: u8,
@@ -169,12 +179,12 @@ pub extern "C" fn dm_frame_write(
     run: &[u8],
     out: &mut [u8],
 ) -> Answer
-    ensures { λ r. ⌜ SendsIf (leb everyone 1 && leb «has_pattern» 1) (recordWrite (deviceFrom everyone unit) command (fieldsFrom free version bank program last pattern «has_pattern» interface rx tx) (now (run .entry)) (length (now (out .entry)))) r (now (out .entry)) (now (out .exit)) ⌝ }
+    ensures { λ r. ⌜ SendsIf (leb everyone 1 && patternFlagFits command «has_pattern») (recordWrite (deviceFrom everyone unit) command (fieldsFrom free version bank program last pattern «has_pattern» interface rx tx) (now (run .entry)) (length (now (out .entry)))) r (now (out .entry)) (now (out .exit)) ⌝ }
 {
     if 1 < everyone {
         return host_answer::no_record();
     }
-    if 1 < has_pattern {
+    if !pattern_flag_fits(command, has_pattern) {
         return host_answer::no_record();
     }
     let device = host_answer::device_of(everyone, unit);
