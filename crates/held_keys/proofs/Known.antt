@@ -10,8 +10,7 @@ use lib.Pow.{shr-shr}
 use lib.Seq.{ext-getD}
 use borrow.Author.Tests.{eqb-true, eqb-false}
 use Rattle.laws.proofs.Tests.{split}
-use Rattle.wire.specs.declared.channel_message.ChannelMessage.{ChannelMessage}
-use Rattle.held_keys.specs.HeldKeys.{bit, isHeld, Afterwards}
+use Rattle.held_keys.specs.HeldKeys.{bit, isHeld}
 use Rattle.held_keys.specs.Record.{Shaped}
 
 -- the bits of a word's half are those behind its last
@@ -50,6 +49,7 @@ key-bit keys c w j h =
     let place : (64 * w + j) % 64 ≡ j = omega arith in
     rw (word, place)
 
+-- two records in which the same keys are held are one
 pub record-known : (keys others : List (List ℕ)) → Shaped keys → Shaped others → ((c k : ℕ) → c < 16 → k < 128 → isHeld keys c k ≡ isHeld others c k)
     → keys ≡ others
 record-known keys others p q same =
@@ -64,9 +64,3 @@ record-known keys others p q same =
     channel c hc =
         ext-getD 0 (getD keys c []) (getD others c []) (p .words c hc ∙ sym (q .words c hc))
         (λ w h. word c w hc (omega (arith, h, p .words c hc)))
-
--- the contract of a message fixes the whole record: at most one record meets it
-pub one-afterwards : (keys : List (List ℕ)) (channel : ℕ) (message : ChannelMessage) (later other : List (List ℕ)) → Shaped later → Shaped other
-    → Afterwards keys channel message later → Afterwards keys channel message other → later ≡ other
-one-afterwards keys channel message later other p q a b =
-    record-known later other p q (λ c k hc hk. a .member c k ∙ sym (b .member c k))

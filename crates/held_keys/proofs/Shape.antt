@@ -11,7 +11,7 @@ use denote.Shadow.{shadow}
 use denote.Plain.{UInt}
 use Rattle.held_keys.specs.Record.{Shaped}
 
-pub two-words : (xs : List (List ℕ)) (us : List Val) (i : ℕ) → shadow (each (List ℕ) (Array (UInt w64) 2 .own) xs us) → i < length xs
+two-words : (xs : List (List ℕ)) (us : List Val) (i : ℕ) → shadow (each (List ℕ) (Array (UInt w64) 2 .own) xs us) → i < length xs
     → length (getD xs i []) ≡ 2
 two-words [] us i p h = absurd (omega arith)
 two-words (x ∷ xs) [] i p h = absurd p

@@ -1,11 +1,11 @@
 -- The held keys of document 01: "For 16 channels of 128 keys: a note on holds its key, a note off releases it".
-use mathlib.Core.Path.{_≡_}
-use mathlib.Core.Bool.{Bool, true, false, _&&_}
+use mathlib.Core.Bool.{Bool, true, false}
 use mathlib.Core.List.{List, [], _∷_}
 use Prim.Native.Nat.{ℕ, zero, suc, _+_, _/_, _%_, _^_}
 use lib.Dec.{ltb, eqb}
 use lib.ListN.{getD}
 use Rattle.laws.specs.Choice.{pick}
+use Rattle.laws.specs.Tabulate.{tab}
 use Rattle.refusal.specs.Outcome.{Outcome, gives, refusal, unless}
 use Rattle.wire.specs.declared.channel_message.ChannelMessage.{ChannelMessage}
 use Rattle.wire.specs.declared.channel_message.ChannelMessage.the-variants as m
@@ -40,24 +40,18 @@ heldAfter (e.Hold key) k before = pick (eqb k key) true before
 heldAfter (e.Release key) k before = pick (eqb k key) false before
 heldAfter e.Nothing k before = before
 
--- which keys are held after a message on a channel: its effect reaches that channel alone, and none of 16 or more
+-- which keys are held after a message on a channel: its effect reaches that channel alone
 abbrev pub stillHeld : List (List ℕ) → ℕ → ChannelMessage → ℕ → ℕ → Bool
-stillHeld keys channel message c k =
-    pick (ltb channel 16 && eqb c channel) (heldAfter (effectOf message) k (isHeld keys c k)) (isHeld keys c k)
+stillHeld keys channel message c k = pick (eqb c channel) (heldAfter (effectOf message) k (isHeld keys c k)) (isHeld keys c k)
 
--- the record afterwards, key by key; and "the record unchanged" for a channel of 16 or more
-pub record Afterwards (keys : List (List ℕ)) (channel : ℕ) (message : ChannelMessage) (later : List (List ℕ)) : Type 0 where
-  pub member : (c k : ℕ) → isHeld later c k ≡ stillHeld keys channel message c k
-  pub same : ltb channel 16 ≡ false → later ≡ keys
+-- "A channel of 16 or more gets 17", with the channel, whatever the message is; else there is nothing to tell
+abbrev pub keyAnswer : ℕ → Outcome ℕ
+keyAnswer channel = unless (ltb channel 16) 17 (channel ∷ []) (gives 0)
 
--- "A channel of 16 or more gets 17"
+-- what an answer tells
 abbrev pub keyTold : KeyAnswer → Outcome ℕ
 keyTold a.Ok = gives 0
 keyTold (a.Err r) = refusal r
-
--- what the outer call answers: done, or 17 with the channel, whatever the message is
-pub record Told (channel : ℕ) (answer : KeyAnswer) : Type 0 where
-  pub answers : keyTold answer ≡ unless (ltb channel 16) 17 (channel ∷ []) (gives 0)
 
 -- how many of the first n keys are held
 unfoldable pub countBelow : (ℕ → Bool) → ℕ → ℕ
@@ -68,16 +62,15 @@ countBelow held (suc n) = countBelow held n + pick (held n) 1 0
 abbrev pub countOn : List (List ℕ) → ℕ → Outcome ℕ
 countOn keys channel = unless (ltb channel 16) 17 (channel ∷ []) (gives (countBelow (isHeld keys channel) 128))
 
--- the first held of n keys of a channel from key k on, or else what stands behind
-unfoldable pub firstKey : (ℕ → ℕ → Bool) → ℕ → ℕ → ℕ → FirstHeld → FirstHeld
-firstKey held c k zero behind = behind
-firstKey held c k (suc n) behind = pick (held c k) (f.Some c k) (firstKey held c (suc k) n behind)
+-- every key of every channel, the lowest channel first and in it the lowest key: place i is key i % 128 of channel i / 128
+unfoldable pub everyKey : List (ℕ × ℕ)
+everyKey = tab (λ i. (i / 128, i % 128)) 2048
 
--- the first held key of n channels from channel c on
-unfoldable pub firstFrom : (ℕ → ℕ → Bool) → ℕ → ℕ → FirstHeld
-firstFrom held c zero = f.None
-firstFrom held c (suc n) = firstKey held c 0 128 (firstFrom held (suc c) n)
+-- the first of these that is held, or none
+unfoldable pub firstOf : List (List ℕ) → List (ℕ × ℕ) → FirstHeld
+firstOf keys [] = f.None
+firstOf keys (at ∷ later) = pick (isHeld keys (at .0) (at .1)) (f.Some (at .0) (at .1)) (firstOf keys later)
 
 -- "the first held key, lowest channel and then lowest key, or none"
 abbrev pub firstHeld : List (List ℕ) → FirstHeld
-firstHeld keys = firstFrom (isHeld keys) 0 16
+firstHeld keys = firstOf keys everyKey

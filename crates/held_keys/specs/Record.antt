@@ -3,6 +3,7 @@ use mathlib.Core.Path.{_≡_}
 use mathlib.Core.Bool.{Bool}
 use mathlib.Core.List.{List, [], _∷_}
 use Prim.Native.Nat.{ℕ, zero, suc, _+_, _*_, _^_, _<_}
+use lib.Dec.{ltb}
 use lib.ListN.{length, getD, replicate}
 use Rattle.laws.specs.Choice.{pick}
 use Rattle.laws.specs.Tabulate.{tab}
@@ -28,9 +29,9 @@ wordOf held (suc n) = pick (held 0) 1 0 + 2 * wordOf (λ j. held (suc j)) n
 unfoldable pub recordOf : (ℕ → ℕ → Bool) → List (List ℕ)
 recordOf held = tab (λ c. tab (λ w. wordOf (λ j. held c (64 * w + j)) 64) 2) 16
 
--- the record after a message: that of the keys that are then held
+-- the record after a message: that of the keys that are then held; for a channel of 16 or more "the record unchanged"
 abbrev pub recordAfter : List (List ℕ) → ℕ → ChannelMessage → List (List ℕ)
-recordAfter keys channel message = recordOf (stillHeld keys channel message)
+recordAfter keys channel message = pick (ltb channel 16) (recordOf (stillHeld keys channel message)) keys
 
 -- a call: a channel and a message
 abbrev pub KeyCall : Type 0

@@ -5,8 +5,8 @@ ghost use Prim.Native.Nat.{ℕ, _%_, _<_};
 ghost use lib.Dec.{eqb};
 ghost use Rattle.refusal.specs.Outcome.{counted};
 ghost use Rattle.laws.specs.Choice.{pick};
-ghost use Rattle.held_keys.specs.HeldKeys.{bit, effectOf, Afterwards, Told, countOn, firstHeld};
-ghost use Rattle.held_keys.specs.Record.{noKeys};
+ghost use Rattle.held_keys.specs.HeldKeys.{bit, effectOf, keyTold, keyAnswer, countOn, firstHeld};
+ghost use Rattle.held_keys.specs.Record.{noKeys, recordAfter};
 
 pub mod bytes;
 
@@ -90,7 +90,7 @@ fn without_bit(word: u64, at: usize) -> u64
 
 // The record after a message on a channel; as it was for a channel of 16 or more.
 pub fn applied(keys: HeldKeys, channel: Channel, message: ChannelMessage) -> HeldKeys
-    ensures { λ r. ⌜ Afterwards keys (channel .0) message r ⌝ }
+    ensures { λ r. ⌜ r ≡ recordAfter keys (channel .0) message ⌝ }
 {
     let index = channel.0;
     if CHANNEL_COUNT <= index {
@@ -113,9 +113,9 @@ pub fn applied(keys: HeldKeys, channel: Channel, message: ChannelMessage) -> Hel
     }
 }
 
-// The same where the record lies. Refuses 17.
+// A message applied to the record where it lies. Refuses 17.
 pub fn apply(keys: &mut [[u64; 2]; 16], channel: Channel, message: ChannelMessage) -> KeyAnswer
-    ensures { λ r. ⌜ Told (channel .0) r × Afterwards (now (keys .entry)) (channel .0) message (now (keys .exit)) ⌝ }
+    ensures { λ r. ⌜ (keyTold r ≡ keyAnswer (channel .0)) × (now (keys .exit) ≡ recordAfter (now (keys .entry)) (channel .0) message) ⌝ }
 {
     let before = *keys;
     *keys = applied(before, channel, message);

@@ -10,18 +10,18 @@ use borrow.Author.Tests.{eq-eqb, ne-eqb, lt-ltb}
 use Rattle.laws.proofs.Tests.{split}
 use Rattle.refusal.specs.declared.Refusal.{Refusal}
 use Rattle.refusal.specs.declared.Refusal.the-variants.{BadStore}
-use Rattle.refusal.specs.Outcome.{Outcome, gives, refused, refusal, unless}
+use Rattle.refusal.specs.Outcome.{Outcome, gives, refused, refusal}
 use Rattle.wire.specs.declared.channel_message.ChannelMessage.{ChannelMessage}
 use Rattle.wire.specs.declared.channel_message.MaybeChannelMessage.{MaybeChannelMessage}
 use Rattle.wire.specs.declared.channel_message.MaybeChannelMessage.the-variants as c
 use Rattle.held_keys.specs.declared.KeyAnswer.{KeyAnswer}
 use Rattle.held_keys.specs.declared.KeyAnswer.the-variants as k
-use Rattle.held_keys.specs.HeldKeys.{stillHeld, keyTold, Told, Afterwards}
+use Rattle.held_keys.specs.HeldKeys.{keyTold, keyAnswer}
 use Rattle.held_keys.specs.Record.{recordAfter, noKeys}
 use Rattle.held_keys.proofs.Keys.{none-held}
-use Rattle.held_keys.proofs.Made.{made-held, made-shaped, after-meets}
+use Rattle.held_keys.proofs.Made.{after-shaped}
 use Rattle.held_keys.specs.HeldBytes.{keysOf, bytesOfKeys}
-use Rattle.held_keys.proofs.bytes.RoundTrip.{bytes-same, bytes-fresh, keys-read-back, keys-shaped}
+use Rattle.held_keys.proofs.bytes.RoundTrip.{bytes-fresh, keys-read-back, keys-shaped}
 use Rattle.host_answer.specs.declared.Answer.{Answer}
 use Rattle.host_answer.specs.Answer.{answerOf, noRecord, Sends}
 use Rattle.host_held_keys.specs.Held.{freshWrite, applyAnswer, applyBytes, HeldSent}
@@ -53,56 +53,52 @@ apply-unnamed kind channel bytes r h e n =
     (record { answers = rw (eq-eqb (length bytes) 256 h) n; leaves = rw (eq-eqb (length bytes) 256 h) })
 
 -- what the answer below says of the channel
-too-high : (channel : ℕ) (answer : KeyAnswer) (e : Refusal) → answer ≡ k.Err e → Told channel answer → ltb channel 16 ≡ false
+too-high : (channel : ℕ) (answer : KeyAnswer) (e : Refusal) → answer ≡ k.Err e → keyTold answer ≡ keyAnswer channel → ltb channel 16 ≡ false
 too-high channel answer e h told =
     split (ltb channel 16)
     (λ (t : ltb channel 16 ≡ true).
-    let z : _≡_ {A = Outcome ℕ} (refusal e) (gives 0) = ap keyTold (sym h) ∙ told .answers ∙ (rw t) in
+    let z : _≡_ {A = Outcome ℕ} (refusal e) (gives 0) = ap keyTold (sym h) ∙ told ∙ (rw t) in
     let one : _≡_ {A = ℕ} 0 1 = cc in
     absurd (omega arith))
     (λ (f : ltb channel 16 ≡ false). f)
 
-in-range : (channel : ℕ) (answer : KeyAnswer) → answer ≡ k.Ok → Told channel answer → ltb channel 16 ≡ true
+in-range : (channel : ℕ) (answer : KeyAnswer) → answer ≡ k.Ok → keyTold answer ≡ keyAnswer channel → ltb channel 16 ≡ true
 in-range channel answer h told =
     split (ltb channel 16) (λ (t : ltb channel 16 ≡ true). t)
     (λ (f : ltb channel 16 ≡ false).
-    let z : _≡_ {A = Outcome ℕ} (gives 0) (refused 17 (channel ∷ [])) = ap keyTold (sym h) ∙ told .answers ∙ (rw f) in
+    let z : _≡_ {A = Outcome ℕ} (gives 0) (refused 17 (channel ∷ [])) = ap keyTold (sym h) ∙ told ∙ (rw f) in
     let one : _≡_ {A = ℕ} 0 1 = cc in
     absurd (omega arith))
 
 -- 17
 pub apply-out : (kind : MaybeChannelMessage) (x : ChannelMessage) (channel : ℕ) (bytes : List ℕ) (answer : KeyAnswer) (e : Refusal) (r : Answer)
-    → length bytes ≡ 256 → kind ≡ c.Some x → answer ≡ k.Err e → Told channel answer → r ≡ answerOf (refusal e) → HeldSent kind channel r bytes bytes
+    → length bytes ≡ 256 → kind ≡ c.Some x → answer ≡ k.Err e → keyTold answer ≡ keyAnswer channel → r ≡ answerOf (refusal e)
+    → HeldSent kind channel r bytes bytes
 apply-out kind x channel bytes answer e r h n g told a =
-    let out : ltb channel 16 ≡ false = too-high channel answer e g told in
-    let same : _≡_ {A = Outcome ℕ} (refusal e) (unless (ltb channel 16) 17 (channel ∷ []) (gives 0)) = ap keyTold (sym g) ∙ told .answers in
     subst (λ (y : MaybeChannelMessage). HeldSent y channel r bytes bytes) (sym n)
-    (record { answers = rw (eq-eqb (length bytes) 256 h) (a ∙ ap answerOf same); leaves = rw (eq-eqb (length bytes) 256 h, out) })
+    (record {
+      answers = rw (eq-eqb (length bytes) 256 h) (a ∙ ap answerOf (ap keyTold (sym g) ∙ told));
+      leaves = rw (eq-eqb (length bytes) 256 h, too-high channel answer e g told);
+    })
 
 -- done: the bytes of the record after the message
-after-bytes : (bytes : List ℕ) (x : ChannelMessage) (channel : ℕ) (keys later : List (List ℕ)) → keys ≡ keysOf bytes → Afterwards keys channel x later
-    → bytesOfKeys later ≡ bytesOfKeys (recordAfter (keysOf bytes) channel x)
-after-bytes bytes x channel keys later e a =
-    bytes-same later (recordAfter (keysOf bytes) channel x)
-    (λ c k hc hk.
-    a .member c k ∙ ap (λ (r : List (List ℕ)). stillHeld r channel x c k) e ∙ sym (made-held (stillHeld (keysOf bytes) channel x) c k hc hk))
-
 pub apply-done : (kind : MaybeChannelMessage) (x : ChannelMessage) (channel : ℕ) (bytes after : List ℕ) (keys later : List (List ℕ)) (answer : KeyAnswer) (r : Answer)
-    → length bytes ≡ 256 → kind ≡ c.Some x → answer ≡ k.Ok → Told channel answer → keys ≡ keysOf bytes → Afterwards keys channel x later
+    → length bytes ≡ 256 → kind ≡ c.Some x → answer ≡ k.Ok → keyTold answer ≡ keyAnswer channel → keys ≡ keysOf bytes → later ≡ recordAfter keys channel x
     → after ≡ bytesOfKeys later → r ≡ answerOf (gives 0) → HeldSent kind channel r bytes after
 apply-done kind x channel bytes after keys later answer r h n g told e a l d =
+    let said : bytesOfKeys later ≡ bytesOfKeys (recordAfter (keysOf bytes) channel x) =
+    ap bytesOfKeys (a ∙ ap (λ (b : List (List ℕ)). recordAfter b channel x) e) in
     let range : ltb channel 16 ≡ true = in-range channel answer g told in
     subst (λ (y : MaybeChannelMessage). HeldSent y channel r bytes after) (sym n)
     (record {
       answers = rw (eq-eqb (length bytes) 256 h, range) d;
-      leaves = rw (eq-eqb (length bytes) 256 h, range) (l ∙ after-bytes bytes x channel keys later e a);
+      leaves = rw (eq-eqb (length bytes) 256 h) (l ∙ said ∙ (rw range));
     })
 
--- what the bytes say afterwards is what the contract of a message asks of the record
+-- the bytes say afterwards what the record is after the message
 pub said-afterwards : (x : ChannelMessage) (channel : ℕ) (r : Answer) (bytes later : List ℕ) → length bytes ≡ 256 → channel < 16
-    → HeldSent (c.Some x) channel r bytes later → Afterwards (keysOf bytes) channel x (keysOf later)
+    → HeldSent (c.Some x) channel r bytes later → keysOf later ≡ recordAfter (keysOf bytes) channel x
 said-afterwards x channel r bytes later h range s =
-    let next : List (List ℕ) = recordAfter (keysOf bytes) channel x in
-    let is : later ≡ bytesOfKeys next = s .leaves ∙ (rw (eq-eqb (length bytes) 256 h, lt-ltb channel 16 range)) in
-    subst (λ (l : List (List ℕ)). Afterwards (keysOf bytes) channel x l)
-    (sym (ap keysOf is ∙ keys-read-back next (made-shaped (stillHeld (keysOf bytes) channel x)))) (after-meets (keysOf bytes) (keys-shaped bytes) channel x)
+    let is : later ≡ bytesOfKeys (recordAfter (keysOf bytes) channel x) = s .leaves ∙ (rw (eq-eqb (length bytes) 256 h, lt-ltb channel 16 range)) in
+    ap keysOf is
+    ∙ keys-read-back (recordAfter (keysOf bytes) channel x) (after-shaped (keysOf bytes) channel x (keys-shaped bytes))

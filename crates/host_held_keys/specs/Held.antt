@@ -12,7 +12,7 @@ use Rattle.wire.specs.declared.channel_message.MaybeChannelMessage.{MaybeChanne
 use Rattle.wire.specs.declared.channel_message.MaybeChannelMessage.the-variants as c
 use Rattle.held_keys.specs.declared.FirstHeld.{FirstHeld}
 use Rattle.held_keys.specs.declared.FirstHeld.the-variants as f
-use Rattle.held_keys.specs.HeldKeys.{countOn, firstHeld}
+use Rattle.held_keys.specs.HeldKeys.{keyAnswer, countOn, firstHeld}
 use Rattle.held_keys.specs.Record.{recordAfter}
 use Rattle.held_keys.specs.HeldBytes.{keysOf, bytesOfKeys}
 use Rattle.host_answer.specs.declared.Answer.{Answer}
@@ -29,7 +29,7 @@ freshWrite bytes = unless (isRecord bytes) 20 [] (gives (replicate 256 0))
 
 -- a message applied: 20 for the length, 255 where no record names the kind, then 17
 abbrev pub kindAnswer : MaybeChannelMessage → ℕ → Answer
-kindAnswer (c.Some message) channel = answerOf (unless (ltb channel 16) 17 (channel ∷ []) (gives 0))
+kindAnswer (c.Some message) channel = answerOf (keyAnswer channel)
 kindAnswer c.None channel = noRecord
 
 -- 20 first, "tested first, nothing used"

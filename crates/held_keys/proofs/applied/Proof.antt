@@ -1,19 +1,24 @@
 -- `applied` meets its contract: one word is stored, with the key's bit as the effect has it.
-use Rattle.held_keys.specs.HeldKeys.{effectOf}
+use Rattle.held_keys.specs.HeldKeys.{effectOf, isHeld}
 use Rattle.held_keys.specs.declared.Effect.the-variants as e
-use borrow.Author.Tests.{le-ltb, lt-ltb}
-use mathlib.Core.Path.{_≡_, ap, sym, _∙_}
-use mathlib.Core.Bool.{true, false}
+use borrow.Author.Tests.{le-ltb}
+use mathlib.Core.Path.{_≡_, refl, ap, sym, _∙_}
+use mathlib.Core.Bool.{Bool, true, false}
 use Prim.Native.Nat.{_<_}
 use native.Mathlib.Omega.{arith}
-use Rattle.held_keys.proofs.Shape.{two-words}
-use Rattle.held_keys.proofs.Keys.{held-stored, key-changed, unchanged, key-small, keyOf}
+use Rattle.held_keys.proofs.Shape.{array-shaped}
+use Rattle.held_keys.proofs.Keys.{held-stored, stored-shaped, key-small, keyOf}
+use Rattle.held_keys.proofs.Made.{afterwards-is}
+use Rattle.held_keys.specs.Record.{Shaped}
+use lib.ListN.{length}
+use lib.Dec.{eqb}
+use Rattle.laws.proofs.Tests.{by-test}
 use borrow.Author.Needs.{needs}
 use Rattle.held_keys.proofs.applied.Statement.{statement}
 use Rattle.held_keys.proofs.applied.Tie as tie
 
 returns : tie.Need-returns
-returns c = let a = c .before .args in unchanged (a .t1) (a .channel .0) (a .message) (λ k b. rw (le-ltb _ _ (c .if1 .taken)))
+returns c = rw (le-ltb _ _ (c .if1 .taken))
 
 cast-at : tie.Need-cast-at
 cast-at c = search needs
@@ -105,8 +110,12 @@ returns-2 c = let s = c .before .before .before .before .before .before .before 
     let is : effectOf (a .message) ≡ e.Hold (k .0 .0) = sym (c .before .before .before .before .before .effect-of .ensures) ∙ k .1 in
     let small : k .0 .0 < 128 = rw (ap keyOf is) at (key-small (a .message)) in
     let h : a .channel .0 < 16 = c .before .before .before .before .before .before .if1 .left in
-    key-changed (a .t1) (a .channel .0) (a .message) _ (k .0 .0) true h (λ j b. rw is)
-    (held-stored (a .t1) (a .channel .0) (k .0 .0) (c .with-bit .result) true (omega (arith, s .good .0 .1 .0 .1)) (two-words (a .t1) (s .good .0 .0) (a .channel .0) (s .good .0 .1 .1) (omega (arith, s .good .0 .1 .0 .1))) small (c .with-bit .ensures))
+    let p : Shaped (a .t1) = array-shaped (a .t1) _ (s .good .0) in
+    let i : a .channel .0 < length (a .t1) = omega (arith, p .channels) in
+    let w = c .with-bit in
+    afterwards-is (a .t1) (a .channel .0) (a .message) _ h
+    (stored-shaped (a .t1) (a .channel .0) (k .0 .0) (w .result) true i (p .words (a .channel .0) h) small (w .ensures) p (omega arith))
+    (λ d j. held-stored (a .t1) (a .channel .0) (k .0 .0) (w .result) true i (p .words (a .channel .0) h) small (w .ensures) d j ∙ (rw is))
 
 returns-3 : tie.Need-returns-3
 returns-3 c = let s = c .before .before .before .before .before .before .before in
@@ -115,13 +124,19 @@ returns-3 c = let s = c .before .before .before .before .before .before .before 
     let is : effectOf (a .message) ≡ e.Release (k .0 .0) = sym (c .before .before .before .before .before .effect-of .ensures) ∙ k .1 in
     let small : k .0 .0 < 128 = rw (ap keyOf is) at (key-small (a .message)) in
     let h : a .channel .0 < 16 = c .before .before .before .before .before .before .if1 .left in
-    key-changed (a .t1) (a .channel .0) (a .message) _ (k .0 .0) false h (λ j b. rw is)
-    (held-stored (a .t1) (a .channel .0) (k .0 .0) (c .without-bit .result) false (omega (arith, s .good .0 .1 .0 .1)) (two-words (a .t1) (s .good .0 .0) (a .channel .0) (s .good .0 .1 .1) (omega (arith, s .good .0 .1 .0 .1))) small (c .without-bit .ensures))
+    let p : Shaped (a .t1) = array-shaped (a .t1) _ (s .good .0) in
+    let i : a .channel .0 < length (a .t1) = omega (arith, p .channels) in
+    let w = c .without-bit in
+    afterwards-is (a .t1) (a .channel .0) (a .message) _ h
+    (stored-shaped (a .t1) (a .channel .0) (k .0 .0) (w .result) false i (p .words (a .channel .0) h) small (w .ensures) p (omega arith))
+    (λ d j. held-stored (a .t1) (a .channel .0) (k .0 .0) (w .result) false i (p .words (a .channel .0) h) small (w .ensures) d j ∙ (rw is))
 
 returns-4 : tie.Need-returns-4
-returns-4 c = let a = c .before .before .before .before .args in
+returns-4 c = let s = c .before .before .before .before in
+    let a = s .args in
     let is : effectOf (a .message) ≡ e.Nothing = sym (c .before .before .effect-of .ensures) ∙ c .enum-told .given .1 in
-    unchanged (a .t1) (a .channel .0) (a .message) (λ k b. rw (lt-ltb _ _ (c .before .before .before .if1 .left), is))
+    afterwards-is (a .t1) (a .channel .0) (a .message) (a .t1) (c .before .before .before .if1 .left) (array-shaped (a .t1) _ (s .good .0))
+    (λ d j. by-test (λ (x : Bool). isHeld (a .t1) d j ≡ x) (eqb d (a .channel .0)) _ _ (λ t. rw is) (λ t. refl))
 
 pub applied-spec : {M : Type 1} → statement M
 applied-spec =

@@ -40,15 +40,6 @@ bytes-say keys c k hc hk =
     ∙ word-bit (λ j. isHeld keys (i / 16) (8 * (i % 16) + j)) 8 (k % 8) (omega arith)
     ∙ ap₂ (λ (x y : ℕ). isHeld keys x y) channel key
 
--- bytes are made of the held keys alone
-pub bytes-same : (keys others : List (List ℕ)) → ((c k : ℕ) → c < 16 → k < 128 → isHeld keys c k ≡ isHeld others c k) → bytesOfKeys keys ≡ bytesOfKeys others
-unfolding bytesOfKeys
-bytes-same keys others same =
-    tab-same (byteOf keys) (byteOf others) 256
-    (λ i h.
-    word-same (λ j. isHeld keys (i / 16) (8 * (i % 16) + j)) (λ j. isHeld others (i / 16) (8 * (i % 16) + j)) 8
-    (λ j b. same (i / 16) (8 * (i % 16) + j) (omega arith) (omega arith)))
-
 -- with no key held every byte is 0
 all-zeros : tab (λ i. wordOf (λ j. false) 8) 256 ≡ replicate 256 0
 unfolding wordOf

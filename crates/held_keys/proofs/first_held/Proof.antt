@@ -1,34 +1,32 @@
--- `first_held` meets its contract: at each turn the answer of the whole search is the answer of what is left of it.
-use Rattle.held_keys.proofs.Keys.{next-key, found-key, next-channel, no-key-left, no-channel-left}
-use Rattle.held_keys.proofs.Keys.{next-key, found-key, next-channel}
-use Rattle.held_keys.specs.HeldKeys.{isHeld, firstHeld, firstKey, firstFrom}
+-- `first_held` meets its contract: before each turn no key was held among those that were looked at.
+use Rattle.held_keys.proofs.First.{NoneBelow, passed-key, found-key, found-none}
+use Rattle.held_keys.specs.HeldKeys.{isHeld}
 use Rattle.held_keys.specs.declared.FirstHeld.the-variants as f
 use borrow.Author.Needs.{needs}
 use native.Mathlib.Omega.{arith}
-use Prim.Native.Nat.{_≤_, _<_, _-_, _+_}
+use Prim.Native.Nat.{_≤_, _<_, _-_, _+_, _*_}
 use mathlib.Core.Path.{_≡_, refl, sym, _∙_}
 use Rattle.held_keys.proofs.first_held.Statement.{statement}
 use Rattle.held_keys.proofs.first_held.Tie as tie
 
 abbrev Inv-loop : tie.InvT-loop
-Inv-loop keys found₀ channel key₀ found key = (channel < 16) × (key ≤ 128) × (found ≡ f.None) × (firstHeld keys ≡ firstKey (isHeld keys) channel key (128 - key) (firstFrom (isHeld keys) (channel + 1) (16 - (channel + 1))))
+Inv-loop keys found₀ channel key₀ found key = (channel < 16) × (key ≤ 128) × (found ≡ f.None) × NoneBelow keys (128 * channel + key)
 
 abbrev μ-loop : tie.MeasureT-loop
 μ-loop keys found₀ channel key₀ found key = 128 - key
 
 abbrev Inv-channels : tie.InvT-channels
-Inv-channels keys found₀ channel₀ found channel = (channel ≤ 16) × (found ≡ f.None) × (firstHeld keys ≡ firstFrom (isHeld keys) channel (16 - channel))
+Inv-channels keys found₀ channel₀ found channel = (channel ≤ 16) × (found ≡ f.None) × NoneBelow keys (128 * channel)
 
 abbrev μ-channels : tie.MeasureT-channels
 μ-channels keys found₀ channel₀ found channel = 16 - channel
 
 channels-holds : tie.Need-channels-holds Inv-loop μ-loop Inv-channels μ-channels
-channels-holds c = (omega arith, refl, refl)
+channels-holds c = (omega arith, refl, λ i h. absurd (omega arith))
 
 loop-holds : tie.Need-loop-holds Inv-loop μ-loop Inv-channels μ-channels
-loop-holds c = let a = c .before .before .args in
-    let l = c .before .channels in
-    (c .channels-test .taken, omega arith, l .inv .1, l .inv .2 ∙ next-channel (isHeld (a .t1)) (l .channel) 16 (c .channels-test .taken))
+loop-holds c = let l = c .before .channels in
+    (c .channels-test .taken, omega arith, l .inv .1, λ i h. l .inv .2 i (omega arith))
 
 mul-bit-set : tie.Need-mul-bit-set Inv-loop μ-loop Inv-channels μ-channels
 mul-bit-set c = search needs
@@ -56,7 +54,7 @@ unfolding isHeld
 loop-again c = let a = c .before .before .before .before .before .before .before .args in
     let l = c .before .before .before .before .loop in
     let ch = c .before .before .before .before .before .before .channels .channel in
-    (l .inv .0, omega arith, l .inv .2, l .inv .3 ∙ next-key (isHeld (a .t1)) ch (l .key) 128 _ (sym (c .before .bit-set .ensures) ∙ c .if1 .left) (c .before .before .before .loop-test .taken))
+    (l .inv .0, omega arith, l .inv .2, passed-key (a .t1) ch (l .key) (c .before .before .before .loop-test .taken) (sym (c .before .bit-set .ensures) ∙ c .if1 .left) (l .inv .3))
 
 add-channel : tie.Need-add-channel Inv-loop μ-loop Inv-channels μ-channels
 add-channel c = omega arith
@@ -65,21 +63,20 @@ channels-less : tie.Need-channels-less Inv-loop μ-loop Inv-channels μ-channels
 channels-less c = omega arith
 
 channels-again : tie.Need-channels-again Inv-loop μ-loop Inv-channels μ-channels
-channels-again c = let a = c .before .before .before .before .args in
-    let l = c .before .loop in
-    (omega arith, l .inv .2, l .inv .3 ∙ no-key-left (isHeld (a .t1)) (c .before .before .before .channels .channel) (l .key) 128 _ (c .loop-test .left))
+channels-again c = let l = c .before .loop in
+    (omega arith, l .inv .2, λ i h. l .inv .3 i (omega (arith, c .loop-test .left)))
 
 returns : tie.Need-returns Inv-loop μ-loop Inv-channels μ-channels
 returns c = let a = c .before .before .args in
     let l = c .before .channels in
-    l .inv .1 ∙ sym (l .inv .2 ∙ no-channel-left (isHeld (a .t1)) (l .channel) 16 (c .channels-test .left))
+    l .inv .1 ∙ sym (found-none (a .t1) (λ i h. l .inv .2 i (omega (arith, c .channels-test .left))))
 
 returns-2 : tie.Need-returns-2 Inv-loop μ-loop Inv-channels μ-channels
 unfolding isHeld
 returns-2 c = let a = c .before .before .before .before .before .before .before .args in
     let l = c .before .before .before .before .loop in
     let ch = c .before .before .before .before .before .before .channels .channel in
-    sym (l .inv .3 ∙ found-key (isHeld (a .t1)) ch (l .key) 128 _ (sym (c .before .bit-set .ensures) ∙ c .if1 .taken) (c .before .before .before .loop-test .taken))
+    sym (found-key (a .t1) ch (l .key) (l .inv .0) (c .before .before .before .loop-test .taken) (l .inv .3) (sym (c .before .bit-set .ensures) ∙ c .if1 .taken))
 
 pub first-held-spec : {M : Type 1} → statement M
 first-held-spec =
