@@ -1,7 +1,7 @@
 -- The held keys at the boundary: 256 bytes, 16 for each channel. Key k of channel c is bit k % 8 of byte 16 * c + k / 8.
 use mathlib.Core.Bool.{Bool}
-use mathlib.Core.List.{List, [], _∷_}
-use Prim.Native.Nat.{ℕ, _+_, _*_, _/_, _%_, _^_}
+use mathlib.Core.List.{List}
+use Prim.Native.Nat.{ℕ, _+_, _*_, _/_, _%_}
 use lib.ListN.{getD}
 use Rattle.laws.specs.Tabulate.{tab}
 use Rattle.held_keys.specs.HeldKeys.{bit, isHeld}
@@ -22,11 +22,3 @@ byteOf keys i = wordOf (λ j. isHeld keys (i / 16) (8 * (i % 16) + j)) 8
 -- a record's bytes
 unfoldable pub bytesOfKeys : List (List ℕ) → List ℕ
 bytesOfKeys keys = tab (byteOf keys) 256
-
--- eight bytes of a list as one word, low byte first
-abbrev pub wordIn : List ℕ → ℕ → ℕ
-wordIn bytes at = wordOf (λ j. bit (getD bytes (at + j / 8) 0) (j % 8)) 64
-
--- a word's eight bytes, low byte first
-abbrev pub wordByte : ℕ → ℕ → ℕ
-wordByte word i = word / 2 ^ (8 * i) % 256

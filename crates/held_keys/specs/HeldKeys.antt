@@ -66,7 +66,7 @@ countOn keys channel = unless (ltb channel 16) 17 (channel ∷ []) (gives (count
 unfoldable pub everyKey : List (ℕ × ℕ)
 everyKey = tab (λ i. (i / 128, i % 128)) 2048
 
--- the first of these that is held, or none
+-- the first key of a list that is held, or none
 unfoldable pub firstOf : List (List ℕ) → List (ℕ × ℕ) → FirstHeld
 firstOf keys [] = f.None
 firstOf keys (at ∷ later) = pick (isHeld keys (at .0) (at .1)) (f.Some (at .0) (at .1)) (firstOf keys later)

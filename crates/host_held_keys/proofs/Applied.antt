@@ -1,6 +1,6 @@
 -- An entry point does to the bytes what the call below it does to the record that they say.
-use mathlib.Core.Path.{_≡_, refl, ap, sym, subst, _∙_}
-use mathlib.Core.Bool.{Bool, true, false}
+use mathlib.Core.Path.{_≡_, ap, sym, subst, _∙_}
+use mathlib.Core.Bool.{true, false}
 use mathlib.Core.List.{List, [], _∷_, _++_, append-nil}
 use Prim.Native.Nat.{ℕ, _<_}
 use native.Mathlib.Omega.{arith}
@@ -24,7 +24,7 @@ use Rattle.held_keys.specs.HeldBytes.{keysOf, bytesOfKeys}
 use Rattle.held_keys.proofs.bytes.RoundTrip.{bytes-fresh, keys-read-back, keys-shaped}
 use Rattle.host_answer.specs.declared.Answer.{Answer}
 use Rattle.host_answer.specs.Answer.{answerOf, noRecord, Sends}
-use Rattle.host_held_keys.specs.Held.{freshWrite, applyAnswer, applyBytes, HeldSent}
+use Rattle.host_held_keys.specs.Held.{freshWrite, HeldSent}
 
 -- a noKeys record: 20, or every byte 0
 pub fresh-refused : (bytes : List ℕ) (r : Answer) → (length bytes ≡ 256 → ⊥) → r ≡ answerOf (refusal BadStore) → Sends (freshWrite bytes) r bytes bytes

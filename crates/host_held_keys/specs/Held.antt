@@ -1,13 +1,12 @@
 -- The held keys at the boundary: 256 bytes that the caller keeps. "A channel of 16 or more gets 17, the record unchanged"; 20 for another length.
 use mathlib.Core.Path.{_≡_}
 use mathlib.Core.Bool.{Bool}
-use mathlib.Core.List.{List, [], _∷_}
+use mathlib.Core.List.{List, []}
 use Prim.Native.Nat.{ℕ}
 use lib.Dec.{eqb, ltb}
 use lib.ListN.{length, replicate}
 use Rattle.laws.specs.Choice.{pick}
 use Rattle.refusal.specs.Outcome.{Outcome, gives, refused, unless}
-use Rattle.wire.specs.declared.channel_message.ChannelMessage.{ChannelMessage}
 use Rattle.wire.specs.declared.channel_message.MaybeChannelMessage.{MaybeChannelMessage}
 use Rattle.wire.specs.declared.channel_message.MaybeChannelMessage.the-variants as c
 use Rattle.held_keys.specs.declared.FirstHeld.{FirstHeld}
@@ -59,6 +58,6 @@ abbrev pub firstTold : FirstHeld → HeldAnswer
 firstTold (f.Some channel key) = record { number = 0; found = 1; channel = channel; key = key }
 firstTold f.None = record { number = 0; found = 0; channel = 0; key = 0 }
 
--- the same of the bytes; 20 for another length
+-- the first held key that the bytes say; 20 for another length
 abbrev pub firstIn : List ℕ → HeldAnswer
 firstIn bytes = pick (isRecord bytes) (firstTold (firstHeld (keysOf bytes))) (record { number = 20; found = 0; channel = 0; key = 0 })

@@ -1,6 +1,6 @@
 -- Eight bytes as one number.
 use mathlib.Core.List.{List}
-use Prim.Native.Nat.{ℕ, _+_, _*_, _/_, _%_}
+use Prim.Native.Nat.{ℕ, _+_, _*_, _/_, _%_, _^_}
 use lib.ListN.{getD, set}
 
 -- eight bytes as one number, the first lowest
@@ -18,3 +18,7 @@ abbrev pub putWord : ℕ → List ℕ → ℕ → List ℕ
 putWord w l i =
     set (set (set (set (set (set (set (set l i (w % 256)) (i + 1) (w / 0x100 % 256)) (i + 2) (w / 0x1_0000 % 256)) (i + 3) (w / 0x100_0000 % 256))
     (i + 4) (w / 0x1_0000_0000 % 256)) (i + 5) (w / 0x100_0000_0000 % 256)) (i + 6) (w / 0x1_0000_0000_0000 % 256)) (i + 7) (w / 0x100_0000_0000_0000 % 256)
+
+-- byte k of a number, the lowest first
+abbrev pub octet : ℕ → ℕ → ℕ
+octet w k = w / 2 ^ (8 * k) % 256

@@ -3,10 +3,9 @@ use Rattle.held_keys.proofs.bytes.Filled.{channelIn, channel-stored, ch
 use Rattle.laws.specs.Tabulate.{tab}
 use Rattle.laws.specs.Window.{window}
 use Rattle.laws.proofs.Window.{window-none}
-use lib.ListN.{length}
-use borrow.Author.Needs.{needs}
+use lib.ListN.{length, getD}
 use native.Mathlib.Omega.{arith}
-use Prim.Native.Nat.{_≤_, _-_}
+use Prim.Native.Nat.{ℕ, _≤_, _<_, _-_}
 use mathlib.Core.Path.{_≡_, refl, sym}
 use Rattle.held_keys.proofs.bytes.keys_of.Statement.{statement}
 use Rattle.held_keys.proofs.bytes.keys_of.Tie as tie
@@ -50,7 +49,8 @@ loop-less c = omega arith
 loop-again : tie.Need-loop-again Inv-loop μ-loop
 loop-again c = let l = c .before .before .before .loop in
     let b = c .before .before .before .before .before .args .bytes .now in
-    (omega arith, l .inv .1, channel-stored b _ (l .keys) (l .channel) _ _ (l .inv .2) (omega (arith, l .inv .1, c .before .before .loop-test .taken)) (c .before .word-at .ensures) (c .word-at2 .ensures))
+    let small : ((i : ℕ) → getD b i 0 < 256) = λ i. omega (arith, c .before .before .before .before .shared-slice-known .given i) in
+    (omega arith, l .inv .1, channel-stored b small _ (l .keys) (l .channel) _ _ (l .inv .2) (omega (arith, l .inv .1, c .before .before .loop-test .taken)) (c .before .word-at .ensures) (c .word-at2 .ensures))
 
 returns : tie.Need-returns Inv-loop μ-loop
 returns c = let l = c .before .loop in
