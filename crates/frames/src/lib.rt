@@ -1,1 +1,2 @@
-// Theorems about frames as they are read and written; no code of its own.
+// Theorems about frames as they are read and written; its one call writes again what it reads.
+pub mod again;
