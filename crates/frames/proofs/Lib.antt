@@ -8,3 +8,4 @@ pub mod Described
 pub mod Reported
 pub mod Dropped
 pub mod MarkedRows
+pub mod SameBytes
