@@ -64,7 +64,8 @@ find : (place : ℕ) (r : Reported) (rs : List Reported) (xs ys : List Placed) �
 find place r [] xs ys h a = absurd h
 find place r (x ∷ rs) xs ys (inl e) a =
     subst
-    (λ (z : Reported). Among (record { place = place; report = r } ∷ xs) (record { place = place; report = z } ∷ map (λ (q : Reported). record { place = place; report = q }) rs ++ ys))
+    (λ (z : Reported). Among (record { place = place; report = r } ∷ xs)
+    (record { place = place; report = z } ∷ map (λ (q : Reported). record { place = place; report = q }) rs ++ ys))
     e (found (pass-all place rs xs ys a))
 find place r (x ∷ rs) xs ys (inr h) a = passed (find place r rs xs ys h a)
 

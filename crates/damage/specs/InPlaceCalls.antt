@@ -21,7 +21,7 @@ abbrev pub takenReports : Outcome Taken → List ℕ → List Reported
 takenReports (gives t) store = toldAll store (reportList (t .interrupted) (t .report))
 takenReports (refused n values) store = []
 
--- the caller of `decoder_in_place::feed`, by its contract: the state is what stands behind the reference
+-- the caller of `decoder::in_place::feed`, by its contract: the state is what stands behind the reference
 abbrev pub inPlace : Caller
 inPlace =
     soleCaller

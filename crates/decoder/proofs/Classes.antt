@@ -46,5 +46,13 @@ class-is b k.Undefined h =
 class-is b k.Tune h = rw h
 class-is b k.End h = rw h
 class-is b k.Realtime h =
-    rw
-    (le-ltb b 0x80 (omega arith), le-ltb b 0xF0 (omega arith), ne-eqb b 0xF0 (λ e. omega arith), le-ltb b 0xF4 (omega arith), le-ltb b 0xF6 (omega arith), ne-eqb b 0xF6 (λ e. omega arith), ne-eqb b 0xF7 (λ e. omega arith))
+    rw (
+      le-ltb b 0x80 (omega arith),
+      le-ltb b 0xF0 (omega arith),
+      ne-eqb b 0xF0 (λ e. omega arith),
+      le-ltb b 0xF4 (omega arith),
+      le-ltb b 0xF6
+          (omega arith),
+      ne-eqb b 0xF6 (λ e. omega arith),
+      ne-eqb b 0xF7 (λ e. omega arith),
+    )

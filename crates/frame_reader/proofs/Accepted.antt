@@ -69,7 +69,9 @@ pub no-option : (c : Command) → carriesRun c ≡ false → optional c ≡ fals
 no-option c h = sym (rw h at (alike-same (carriesRun c && optional c) (optional c) (of-every (λ j. alike (carriesRun j && optional j) (optional j)) refl c)))
 
 run-given : (c : Command) (v : ℕ) (p : List ℕ) (next : Outcome Fields) (f : Fields) → whenRun c v p next ≡ gives f
-    → (pick (isAny (payloadOf c .run)) (not (eqb ((length p - prefixLength c) % 8) 1)) (accepted (rawLengthFor c v) (length p - prefixLength c) || (optional c && numberedBy (length p))) ≡ true)
+    →
+    (pick (isAny (payloadOf c .run)) (not (eqb ((length p - prefixLength c) % 8) 1))
+    (accepted (rawLengthFor c v) (length p - prefixLength c) || (optional c && numberedBy (length p))) ≡ true)
     × (next ≡ gives f)
 run-given c v p next f e = go (isAny (payloadOf c .run)) e
   where
@@ -80,11 +82,15 @@ run-given c v p next f e = go (isAny (payloadOf c .run)) e
     len-ok = accepted (rawLengthFor c v) (length p - prefixLength c) || (optional c && numberedBy (length p))
 
     go : (t : Bool)
-        → pick t (unless any-ok 13 ((length p - prefixLength c) ∷ []) next) (unless len-ok 7 (codeOf c ∷ (prefixLength c + packedLength (rawLengthFor c v)) ∷ length p ∷ []) next) ≡ gives f
+        → pick t (unless any-ok 13 ((length p - prefixLength c) ∷ []) next)
+        (unless len-ok 7 (codeOf c ∷ (prefixLength c + packedLength (rawLengthFor c v)) ∷ length p ∷ []) next) ≡ gives f
         → (pick t any-ok len-ok ≡ true) × (next ≡ gives f)
     go true g = (passed any-ok 13 ((length p - prefixLength c) ∷ []) next f g, passed-on any-ok 13 ((length p - prefixLength c) ∷ []) next f g)
-    go false g =
-        (passed len-ok 7 (codeOf c ∷ (prefixLength c + packedLength (rawLengthFor c v)) ∷ length p ∷ []) next f g, passed-on len-ok 7 (codeOf c ∷ (prefixLength c + packedLength (rawLengthFor c v)) ∷ length p ∷ []) next f g)
+    go false g = (
+      passed len-ok 7 (codeOf c ∷ (prefixLength c + packedLength (rawLengthFor c v)) ∷ length p ∷ []) next f g,
+      passed-on len-ok 7
+          (codeOf c ∷ (prefixLength c + packedLength (rawLengthFor c v)) ∷ length p ∷ []) next f g,
+    )
 
 dump-given : (c : Command) (p : List ℕ) (f : Fields) → carriesRun c ≡ true → readDump c p ≡ gives f → TestedPayload c p f
 unfolding readRun
@@ -143,7 +149,8 @@ tested bytes r e =
     record {
       ends = passed (framed bytes) 1 [] (whenSevenBit (body bytes) (readHeader bytes)) r e;
       low = h .0;
-      long = leb-true 8 (length bytes) (passed (leb 8 (length bytes)) 3 (length bytes ∷ []) (unless (sameBytes (take 4 (drop 1 bytes)) maker) 4 first4 (readCommand bytes)) r (h .1));
+      long = leb-true 8 (length bytes)
+          (passed (leb 8 (length bytes)) 3 (length bytes ∷ []) (unless (sameBytes (take 4 (drop 1 bytes)) maker) 4 first4 (readCommand bytes)) r (h .1));
       ours = same-is (take 4 (drop 1 bytes)) maker (passed (sameBytes (take 4 (drop 1 bytes)) maker) 4 first4 (readCommand bytes) r e2);
       device = d .1 ∙ ap (λ (x : Record). gives (x .device)) same;
       command = c .1 ∙ ap (λ (x : Record). gives (x .command)) same;

@@ -60,7 +60,8 @@ list-long c b n two h = split (optional c && b) (λ e. at-pattern (both (optiona
 pub same-list : (c : Command) (b : Bool) → fieldList c (optional c && b) ≡ fieldList c b
 same-list c b = go (optional c)
   where
-    go : (t : Bool) → pick (t && (t && b)) (payloadOf c .fields ++ (y.pattern ∷ [])) (payloadOf c .fields) ≡ pick (t && b) (payloadOf c .fields ++ (y.pattern ∷ [])) (payloadOf c .fields)
+    go : (t : Bool) → pick (t && (t && b)) (payloadOf c .fields ++ (y.pattern ∷ [])) (payloadOf c .fields) ≡ pick (t && b)
+        (payloadOf c .fields ++ (y.pattern ∷ [])) (payloadOf c .fields)
     go true = refl
     go false = refl
 

@@ -43,7 +43,8 @@ run-passes c p next h = go (isAny (payloadOf c .run)) h
     len-ok = accepted (rawLengthFor c (getD p 0 0)) (length p - prefixLength c) || (optional c && numberedBy (length p))
 
     go : (t : Bool) → pick t any-ok len-ok ≡ true
-        → pick t (unless any-ok 13 ((length p - prefixLength c) ∷ []) next) (unless len-ok 7 (codeOf c ∷ (prefixLength c + packedLength (rawLengthFor c (getD p 0 0))) ∷ length p ∷ []) next) ≡ next
+        → pick t (unless any-ok 13 ((length p - prefixLength c) ∷ []) next)
+        (unless len-ok 7 (codeOf c ∷ (prefixLength c + packedLength (rawLengthFor c (getD p 0 0))) ∷ length p ∷ []) next) ≡ next
     go true g = rw g
     go false g = rw g
 
@@ -56,7 +57,14 @@ payload-accepted c p f d = go (carriesRun c) refl
 
     go : (t : Bool) → carriesRun c ≡ t → pick t (readDump c p) (readShort c p) ≡ gives f
     go true h =
-        rw (le-leb (early c) (length p) (omega (arith, early-there c h, d .long)), version-fits c (numberedBy (length p)) p h (d .fits), le-leb (prefixLength c) (length p) (d .long), run-passes c p (readFields c (numberedBy (length p)) p) (d .run h)) fields
+        rw (
+          le-leb (early c) (length p) (omega (arith, early-there c h, d .long)),
+          version-fits c (numberedBy (length p)) p h (d .fits),
+          le-leb
+              (prefixLength c) (length p) (d .long),
+          run-passes c p (readFields c (numberedBy (length p)) p) (d .run h),
+        )
+        fields
     go false h =
         let same : readFields c (numberedBy (length p)) p ≡ readFields c false p = rw (no-option c h) in
         rw (eq-eqb (length p) (prefixLength c) (d .exact h)) (sym same ∙ fields)

@@ -79,7 +79,8 @@ fields-back k.SingleProgramNameDumpRequest b p h = refl
 fields-back k.SingleProgramNameDumpResponse b p h = refl
 fields-back k.EditBufferPatternDumpRequest b p h = refl
 fields-back k.ControlAppNotifyResponse b p h =
-    ap (λ (x : ℕ). notifyFields (getD p 0 0) (getD p 1 0) x (getD p 3 0) (getD p 4 0)) (interface-back (getD p 2 0) (ltb-true (getD p 2 0) 3 (both (ltb (getD p 2 0) 3) (allFit (y.bank ∷ y.program ∷ []) p 3) h .0)))
+    ap (λ (x : ℕ). notifyFields (getD p 0 0) (getD p 1 0) x (getD p 3 0) (getD p 4 0))
+    (interface-back (getD p 2 0) (ltb-true (getD p 2 0) 3 (both (ltb (getD p 2 0) 3) (allFit (y.bank ∷ y.program ∷ []) p 3) h .0)))
 fields-back k.CalibrationDataDumpRequest b p h = refl
 fields-back k.CalibrationDataDumpResponse b p h = refl
 fields-back k.ChordMemoryDumpRequest b p h = refl
@@ -100,7 +101,8 @@ frame-written-again bytes x room e real fits =
     let r : Record = g .0 in
     let d : Tested bytes r = tested bytes r (g .1) in
     let same : frameOf r ≡ x = cc in
-    let fields : fieldsWrite (r .device) (commandOfHead (frameOf r .head)) (fieldsOf (frameOf r .head)) (runOf bytes) room ≡ fieldsWrite (r .device) (r .command) (r .fields) (runOf bytes) room =
+    let fields : fieldsWrite (r .device) (commandOfHead (frameOf r .head)) (fieldsOf (frameOf r .head)) (runOf bytes) room ≡ fieldsWrite (r .device)
+    (r .command) (r .fields) (runOf bytes) room =
     ap₂ (λ (c : Command) (f : Fields). fieldsWrite (r .device) c f (runOf bytes) room) (command-back (r .command) (r .fields)) (same-fields bytes r d) in
     subst (λ (z : Frame). frameWrite z (runOf bytes) room ≡ gives bytes) same
     (ap (λ (o : Outcome (List ℕ)). unless (deviceInRange (r .device)) 5 (deviceByte (r .device) ∷ []) o) fields

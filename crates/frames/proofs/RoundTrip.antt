@@ -98,10 +98,14 @@ module _ (bytes : List ℕ) (r : Record) (d : Tested bytes r) where
       rest : List ℕ
       rest = drop (length (fieldList (r .command) (r .fields .«has_pattern»))) (payload bytes)
 
-      go : (t : Bool) → carriesRun (r .command) ≡ t → pick t (pick t (drop (length (fieldList (r .command) (r .fields .«has_pattern»))) (payload bytes)) []) [] ≡ drop (length (fieldList (r .command) (r .fields .«has_pattern»))) (payload bytes)
+      go : (t : Bool) → carriesRun (r .command) ≡ t → pick t
+          (pick t (drop (length (fieldList (r .command) (r .fields .«has_pattern»))) (payload bytes)) []) [] ≡ drop
+          (length (fieldList (r .command) (r .fields .«has_pattern»))) (payload bytes)
       go true e = refl
       go false e =
-          sym (drop-of-length-le (payload bytes) {i = length (fieldList (r .command) (r .fields .«has_pattern»))} (omega (arith, d .says .exact e, exact-list (r .command) (r .fields .«has_pattern») e)))
+          sym
+          (drop-of-length-le (payload bytes) {i = length (fieldList (r .command) (r .fields .«has_pattern»))}
+          (omega (arith, d .says .exact e, exact-list (r .command) (r .fields .«has_pattern») e)))
 
   -- the payload between header and F7
   rest-is : drop 7 bytes ≡ p ++ (0xF7 ∷ [])
@@ -119,8 +123,10 @@ module _ (bytes : List ℕ) (r : Record) (d : Tested bytes r) where
   header-is : take 7 bytes ≡ header (deviceByte (r .device)) (codeOf (r .command))
   header-is =
       let ends : Bool = leb 2 (length bytes) && eqb (getD bytes 0 0) 0xF0 in
-      let b0 : getD bytes 0 0 ≡ 0xF0 = eqb-true (getD bytes 0 0) 0xF0 (both (leb 2 (length bytes)) (eqb (getD bytes 0 0) 0xF0) (both ends (eqb (getD bytes (length bytes - 1) 0) 0xF7) (d .ends) .0) .1) in
-      let at : (i : ℕ) → i < 4 → getD bytes (1 + i) 0 ≡ getD maker i 0 = λ i h. sym (getD-drop 1 bytes i 0) ∙ sym (getD-take 4 (drop 1 bytes) i 0 h) ∙ ap (λ (l : List ℕ). getD l i 0) (d .ours) in
+      let b0 : getD bytes 0 0 ≡ 0xF0 = eqb-true (getD bytes 0 0) 0xF0
+      (both (leb 2 (length bytes)) (eqb (getD bytes 0 0) 0xF0) (both ends (eqb (getD bytes (length bytes - 1) 0) 0xF7) (d .ends) .0) .1) in
+      let at : (i : ℕ) → i < 4 → getD bytes (1 + i) 0 ≡ getD maker i 0 = λ i h. sym (getD-drop 1 bytes i 0) ∙ sym (getD-take 4 (drop 1 bytes) i 0 h) ∙
+      ap (λ (l : List ℕ). getD l i 0) (d .ours) in
       let b1 : getD bytes 1 0 ≡ 0x00 = at 0 (omega arith) in
       let b2 : getD bytes 2 0 ≡ 0x20 = at 1 (omega arith) in
       let b3 : getD bytes 3 0 ≡ 0x32 = at 2 (omega arith) in
@@ -135,7 +141,8 @@ module _ (bytes : List ℕ) (r : Record) (d : Tested bytes r) where
       let h : List ℕ = header (deviceByte (r .device)) (codeOf (r .command)) in
       let cut : ℕ = length (fieldList (r .command) (r .fields .«has_pattern»)) in
       ap₂ (λ (x z : List ℕ). h ++ (x ++ (z ++ (0xF7 ∷ [])))) prefix-back run-back
-      ∙ ap (λ (x : List ℕ). h ++ x) (sym (append-assoc (take cut (payload bytes)) (drop cut (payload bytes)) (0xF7 ∷ [])) ∙ ap (λ (x : List ℕ). x ++ (0xF7 ∷ [])) (take-append-drop cut (payload bytes)))
+      ∙ ap (λ (x : List ℕ). h ++ x)
+      (sym (append-assoc (take cut (payload bytes)) (drop cut (payload bytes)) (0xF7 ∷ [])) ∙ ap (λ (x : List ℕ). x ++ (0xF7 ∷ [])) (take-append-drop cut (payload bytes)))
       ∙ ap₂ (λ (x z : List ℕ). x ++ z) (sym header-is) (sym rest-is)
       ∙ take-append-drop 7 bytes
 
@@ -143,7 +150,8 @@ module _ (bytes : List ℕ) (r : Record) (d : Tested bytes r) where
   pub payload-low : firstHigh (prefixOf (r .command) (r .fields) ++ ownRun (r .command) (runIn r bytes)) ≡ m.None
   payload-low =
       let cut : ℕ = length (fieldList (r .command) (r .fields .«has_pattern»)) in
-      let whole : prefixOf (r .command) (r .fields) ++ ownRun (r .command) (runIn r bytes) ≡ payload bytes = ap₂ (λ (x z : List ℕ). x ++ z) prefix-back run-back ∙ take-append-drop cut (payload bytes) in
+      let whole : prefixOf (r .command) (r .fields) ++ ownRun (r .command) (runIn r bytes) ≡ payload bytes = ap₂ (λ (x z : List ℕ). x ++ z)
+      prefix-back run-back ∙ take-append-drop cut (payload bytes) in
       let count : length bytes - 2 ≡ 6 + (length bytes - 8) = omega (arith, d .long) in
       let parts : body bytes ≡ take 6 (drop 1 bytes) ++ payload bytes =
       ap (λ (x : ℕ). take x (drop 1 bytes)) count ∙ take-add 6 (length bytes - 8) (drop 1 bytes)
@@ -153,7 +161,8 @@ module _ (bytes : List ℕ) (r : Record) (d : Tested bytes r) where
   -- the fields are in range as they are written
   pub fields-fit : allFit (fieldList (r .command) (r .fields .«has_pattern»)) (prefixOf (r .command) (r .fields)) 0 ≡ true
   fields-fit =
-      fit-front (fieldList (r .command) (r .fields .«has_pattern»)) (payload bytes) (prefixOf (r .command) (r .fields)) 0 (length (fieldList (r .command) (r .fields .«has_pattern»))) (omega arith)
+      fit-front (fieldList (r .command) (r .fields .«has_pattern»)) (payload bytes) (prefixOf (r .command) (r .fields)) 0
+      (length (fieldList (r .command) (r .fields .«has_pattern»))) (omega arith)
       (λ i h. sym (ap (λ (l : List ℕ). getD l i 0) prefix-back ∙ getD-take (length (fieldList (r .command) (r .fields .«has_pattern»))) (payload bytes) i 0 h))
       (ap (λ (l : List Field). allFit l (payload bytes) 0) (own-list bytes r d) ∙ d .says .fits)
 
@@ -173,7 +182,9 @@ written-again bytes r room e real fits =
     let long : length (row (deviceByte (r .device)) (codeOf c) pre (ownRun c run)) ≡ 8 + (length pre + length (ownRun c run)) = simp length-append (omega arith) in
     let whole : length (row (deviceByte (r .device)) (codeOf c) pre (ownRun c run)) ≡ length bytes = ap length (same-row bytes r d) in
     let size : 8 + length pre + pick (carriesRun c) (length run) 0 ≡ length bytes = counts (carriesRun c) (length pre) run (length bytes) (omega (arith, long, whole)) in
-    rw (ok, code-reads-back c, fields-pass bytes r d, e, size, lt-ltb (length bytes) (2 ^ 64) real, le-leb (length bytes) room fits, payload-low bytes r d) (ap (λ (l : List ℕ). gives l) (same-row bytes r d))
+    rw
+    (ok, code-reads-back c, fields-pass bytes r d, e, size, lt-ltb (length bytes) (2 ^ 64) real, le-leb (length bytes) room fits, payload-low bytes r d)
+    (ap (λ (l : List ℕ). gives l) (same-row bytes r d))
   where
     counts : (t : Bool) (a : ℕ) (run : List ℕ) (total : ℕ) → 8 + (a + length (pick t run [])) ≡ total → 8 + a + pick t (length run) 0 ≡ total
     counts true a run total h = omega arith

@@ -81,7 +81,8 @@ pub told-and-sent-again : (bytes : List ℕ) (r : Record) → readRecord bytes �
     → (answer ≡ answerOf (gives (length bytes))) × (afterwards ≡ bytes ++ drop (length bytes) before)
 told-and-sent-again bytes r e real a told before afterwards answer room sent =
     let flags : flagsTold a ≡ true = ap flagsTold told ∙ flags-name bytes r e in
-    let same : sentAgain a bytes (length before) ≡ gives bytes = ap (λ (x : ReadAnswer). sentAgain x bytes (length before)) told ∙ told-is-written bytes r e (length before) real room in
+    let same : sentAgain a bytes (length before) ≡ gives bytes = ap (λ (x : ReadAnswer). sentAgain x bytes (length before)) told ∙ told-is-written
+    bytes r e (length before) real room in
     let named : SendsIf true (sentAgain a bytes (length before)) answer before afterwards =
     subst (λ (t : Bool). SendsIf t (sentAgain a bytes (length before)) answer before afterwards) flags sent in
     let done : Sends (gives bytes) answer before afterwards = subst (λ (o : Outcome (List ℕ)). Sends o answer before afterwards) same named in

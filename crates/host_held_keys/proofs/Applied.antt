@@ -37,7 +37,8 @@ fresh-written bytes later keys r h new l e =
     let behind : drop (length zeros) bytes ≡ [] = drop-of-length-le bytes {i = length zeros} (omega (arith, length-replicate {A = ℕ} 256 0, h)) in
     record {
       answers = rw (eq-eqb (length bytes) 256 h) e;
-      leaves = rw (eq-eqb (length bytes) 256 h) (l ∙ ap bytesOfKeys new ∙ bytes-fresh noKeys (none-held 16) ∙ sym (ap (λ (rest : List ℕ). zeros ++ rest) behind ∙ append-nil zeros));
+      leaves = rw (eq-eqb (length bytes) 256 h)
+          (l ∙ ap bytesOfKeys new ∙ bytes-fresh noKeys (none-held 16) ∙ sym (ap (λ (rest : List ℕ). zeros ++ rest) behind ∙ append-nil zeros));
     }
 
 -- a message: 20

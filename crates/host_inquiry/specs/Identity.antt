@@ -17,7 +17,16 @@ requestAnswer (refused n values) = record { number = n; detail0 = getD values 0 
 -- read: the device and the versions
 abbrev pub replyAnswer : Outcome Identity → ReplyAnswer
 replyAnswer (gives x) =
-    record { number = 0; detail0 = 0; everyone = everyoneOf (x .device); unit = unitOf (x .device); major = x .firmware .major; minor = x .firmware .minor; «voice_major» = x .voice .major; «voice_minor» = x .voice .minor }
+    record {
+      number = 0;
+      detail0 = 0;
+      everyone = everyoneOf (x .device);
+      unit = unitOf (x .device);
+      major = x .firmware .major;
+      minor = x .firmware .minor;
+      «voice_major» = x .voice .major;
+      «voice_minor» = x .voice .minor;
+    }
 replyAnswer (refused n values) =
     record { number = n; detail0 = getD values 0 0; everyone = 0; unit = 0; major = 0; minor = 0; «voice_major» = 0; «voice_minor» = 0 }
 

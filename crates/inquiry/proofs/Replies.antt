@@ -57,7 +57,20 @@ reply-is-row bytes x e =
     let inner : (i : ℕ) → i < 9 → getD bytes (3 + i) 0 ≡ getD fixed i 0 =
     λ i h. sym (getD-drop 3 bytes i 0) ∙ sym (getD-take 9 (drop 3 bytes) i 0 h) ∙ ap (λ (l : List ℕ). getD l i 0) same in (
       spelled bytes 17 long
-          ∙ rw
-          (b0, b1, inner 0 (omega arith), inner 1 (omega arith), inner 2 (omega arith), inner 3 (omega arith), inner 4 (omega arith), inner 5 (omega arith), inner 6 (omega arith), inner 7 (omega arith), inner 8 (omega arith), b16),
+          ∙ rw (
+            b0,
+            b1,
+            inner 0 (omega arith),
+            inner 1 (omega arith),
+            inner 2 (omega arith),
+            inner 3 (omega arith),
+            inner 4 (omega arith),
+            inner 5
+                (omega arith),
+            inner 6 (omega arith),
+            inner 7 (omega arith),
+            inner 8 (omega arith),
+            b16,
+          ),
       (device .0, device .1, sym is),
     )

@@ -38,7 +38,8 @@ identityTold (a.Err e) = refusal e
 -- "puts 00 in the free byte"
 abbrev pub replyBytes : Identity → List ℕ
 replyBytes x =
-    0xF0 ∷ 0x7E ∷ deviceByte (x .device) ∷ 0x06 ∷ 0x02 ∷ 0x00 ∷ 0x20 ∷ 0x32 ∷ 0x20 ∷ 0x00 ∷ 0x01 ∷ 0x00 ∷ packedOf (x .firmware) ∷ 0x00 ∷ x .voice .major ∷ x .voice .minor ∷ 0xF7 ∷ []
+    0xF0 ∷ 0x7E ∷ deviceByte (x .device) ∷ 0x06 ∷ 0x02 ∷ 0x00 ∷ 0x20 ∷ 0x32 ∷ 0x20 ∷ 0x00 ∷ 0x01 ∷ 0x00 ∷ packedOf (x .firmware) ∷ 0x00 ∷ x .voice
+    .major ∷ x .voice .minor ∷ 0xF7 ∷ []
 
 -- the writer: 5, also for a unit above 0F, then 14
 abbrev pub replyWrite : Identity → ℕ → Outcome (List ℕ)

@@ -81,12 +81,14 @@ module _ (w : Walked) (state₀ store₀ bytes state store : List ℕ) (at used 
   pub run-moved : InFrame w state₀ store₀ bytes state kept at' used'
   run-moved =
       subst (λ (x : ℕ). InFrame w state₀ store₀ bytes state kept x used') (sym (r .place))
-      (subst (λ (x : ℕ). InFrame w state₀ store₀ bytes state kept (at + r .count) x) (sym (r .next)) (behind-run w state₀ store₀ bytes state store at used i (r .count) (r .all) kept (r .moved)))
+      (subst (λ (x : ℕ). InFrame w state₀ store₀ bytes state kept (at + r .count) x) (sym (r .next))
+      (behind-run w state₀ store₀ bytes state store at used i (r .count) (r .all) kept (r .moved)))
 
   pub no-room-there : used' < length bytes → getD bytes used' 0 < 0x80 → limit ≤ at'
   no-room-there more low =
       subst (λ (x : ℕ). limit ≤ x) (sym (r .place))
-      (full-there w state₀ store₀ bytes state store at used i (r .count) (r .all) kept (r .moved) (omega (arith, more, r .next)) (subst (λ (x : ℕ). getD bytes x 0 < 0x80) (r .next) low))
+      (full-there w state₀ store₀ bytes state store at used i (r .count) (r .all) kept (r .moved) (omega (arith, more, r .next))
+      (subst (λ (x : ℕ). getD bytes x 0 < 0x80) (r .next) low))
 
 -- what ends the call, and what does not
 module _ (w : Walked) (state₀ store₀ bytes state store : List ℕ) (at used : ℕ) (i : InFrame w state₀ store₀ bytes state store at used) where

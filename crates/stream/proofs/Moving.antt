@@ -100,7 +100,11 @@ module _ (start from most : ℕ) (before bytes : List ℕ) (room : start + most 
         first = m .moved ∙ ap (λ (y : ℕ). window before start (take y (drop from bytes))) (sym (add-zero (m .count)))
 
         stored : set
-            (set (set (set (set (set (set (set store at (getD bytes used 0)) (at + 1) (getD bytes (used + 1) 0)) (at + 2) (getD bytes (used + 2) 0)) (at + 3) (getD bytes (used + 3) 0)) (at + 4) (getD bytes (used + 4) 0)) (at + 5) (getD bytes (used + 5) 0)) (at + 6) (getD bytes (used + 6) 0))
+            (set
+            (set (set
+            (set (set (set (set store at (getD bytes used 0)) (at + 1) (getD bytes (used + 1) 0)) (at + 2) (getD bytes (used + 2) 0)) (at + 3) (getD bytes (used + 3) 0))
+            (at + 4) (getD bytes (used + 4) 0)) (at + 5) (getD bytes (used + 5) 0))
+            (at + 6) (getD bytes (used + 6) 0))
             (at + 7) (getD bytes (used + 7) 0)
             ≡ window before start (take (m .count + 8) (drop from bytes))
         stored =
@@ -110,7 +114,8 @@ module _ (start from most : ℕ) (before bytes : List ℕ) (room : start + most 
             (one 4 _ (omega arith)
             (one 3 _ (omega arith)
             (one 2 _ (omega arith)
-            (one 1 _ (omega arith) (one 0 _ (omega arith) first at used (m .count + 1) (omega arith) (omega arith) (omega arith)) (at + 1) (used + 1) (m .count + 2) (omega arith) (omega arith) (omega arith))
+            (one 1 _ (omega arith) (one 0 _ (omega arith) first at used (m .count + 1) (omega arith) (omega arith) (omega arith)) (at + 1) (used + 1)
+            (m .count + 2) (omega arith) (omega arith) (omega arith))
             (at + 2) (used + 2) (m .count + 3) (omega arith) (omega arith) (omega arith))
             (at + 3) (used + 3) (m .count + 4) (omega arith) (omega arith) (omega arith))
             (at + 4) (used + 4) (m .count + 5) (omega arith) (omega arith) (omega arith))

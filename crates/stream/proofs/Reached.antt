@@ -200,7 +200,8 @@ module _ (w : Walked) (state₀ store₀ bytes state store : List ℕ) (at m a i
           → later ≡ putWaiting m a state → left ≡ store → Numbered w x later left
       outside-realtime small named x later left t q l =
           outside-answers x later left l
-          (realtime-answers (closedBy m a (getD state 13 0)) store (getD bytes i 0) (i + 1) x later store small named t (q ∙ outside-stored state (here .free) m a (here .numbers)) refl)
+          (realtime-answers (closedBy m a (getD state 13 0)) store (getD bytes i 0) (i + 1) x later store small named t
+          (q ∙ outside-stored state (here .free) m a (here .numbers)) refl)
 
       pub outside-tune : getD bytes i 0 ≡ 0xF6 → (x : FedAnswer) (later left : List ℕ) → x ≡ numbersOf (i + 1) false
           (o.Some (report.Common y.TuneRequest)) → later ≡ putWaiting 0 a state

@@ -148,8 +148,15 @@ module _ (l : List ℕ) (long : length l ≡ 14) (bytes : (i : ℕ) → getD l i
       let h : H ≡ 0 = omega (arith, small) in
       let m : M ≡ 0 = omega (arith, small, flag, none, pending) in
       let len : F / 256 ≡ stateLength l = omega (arith, small, frame) in
-      rw
-      (eq-eqb H 0 h, ne-eqb F 0 (λ z. omega (arith, z, frame)), eq-eqb M 0 m, eq-eqb (F % 256) 1 (omega (arith, frame)), le-leb 1 (F / 256) (omega (arith, len, some)), le-leb (F / 256) limit (omega (arith, len, fits)))
+      rw (
+        eq-eqb H 0 h,
+        ne-eqb F 0 (λ z. omega (arith, z, frame)),
+        eq-eqb M 0 m,
+        eq-eqb (F % 256) 1 (omega (arith, frame)),
+        le-leb 1 (F / 256)
+            (omega (arith, len, some)),
+        le-leb (F / 256) limit (omega (arith, len, fits)),
+      )
 
   none-taken : getD l 0 0 ≡ 0 → getD l 9 0 ≡ 0 → getD l 10 0 ≡ 0 → getD l 11 0 ≡ 0 → stateLength l ≡ 0 → taken F H M (getD l 12 0) ≡ true
   none-taken frame flag none pending zero =

@@ -89,7 +89,10 @@ pub fourteen : (l : List ℕ) → length l ≡ 14
     ∷ getD l 13 0 ∷ []
 fourteen l e =
     one 0 (omega (arith, e))
-    (one 1 (omega (arith, e)) (one 2 (omega (arith, e)) (one 3 (omega (arith, e)) (one 4 (omega (arith, e)) (one 5 (omega (arith, e)) (one 6 (omega (arith, e)) (one 7 (omega (arith, e)) (one 8 (omega (arith, e)) (one 9 (omega (arith, e)) (one 10 (omega (arith, e)) (one 11 (omega (arith, e)) (one 12 (omega (arith, e)) (one 13 (omega (arith, e)) (drop-of-length-le l {i = 14} (omega (arith, e))))))))))))))))
+    (one 1 (omega (arith, e))
+    (one 2 (omega (arith, e)) (one 3 (omega (arith, e))
+    (one 4 (omega (arith, e)) (one 5 (omega (arith, e)) (one 6 (omega (arith, e))
+    (one 7 (omega (arith, e)) (one 8 (omega (arith, e)) (one 9 (omega (arith, e)) (one 10 (omega (arith, e)) (one 11 (omega (arith, e)) (one 12 (omega (arith, e)) (one 13 (omega (arith, e)) (drop-of-length-le l {i = 14} (omega (arith, e))))))))))))))))
   where
     one : (j : ℕ) {rest : List ℕ} → j < length l → drop (suc j) l ≡ rest → drop j l ≡ getD l j 0 ∷ rest
     one j h q = drop-cons l j 0 h ∙ ap (λ (t : List ℕ). getD l j 0 ∷ t) q
@@ -114,6 +117,22 @@ written-back l is bytes =
     let frame = bit-back (getD l 0 0) (leb-true (getD l 0 0) 1 (q .0)) in
     let status = status-back (getD l 9 0) (getD l 10 0) (leb-true (getD l 9 0) 1 (r .0)) (r .1) in
     let whole : stateLength l ≡ word (getD l 1 0) (getD l 2 0) (getD l 3 0) (getD l 4 0) (getD l 5 0) (getD l 6 0) (getD l 7 0) (getD l 8 0) = omega arith in
-    rw
-    (frame, status .0, status .1, whole, digit0 _ _ _ _ _ _ _ _ (bytes 1) (bytes 2) (bytes 3) (bytes 4) (bytes 5) (bytes 6) (bytes 7) (bytes 8), digit1 _ _ _ _ _ _ _ _ (bytes 1) (bytes 2) (bytes 3) (bytes 4) (bytes 5) (bytes 6) (bytes 7) (bytes 8), digit2 _ _ _ _ _ _ _ _ (bytes 1) (bytes 2) (bytes 3) (bytes 4) (bytes 5) (bytes 6) (bytes 7) (bytes 8), digit3 _ _ _ _ _ _ _ _ (bytes 1) (bytes 2) (bytes 3) (bytes 4) (bytes 5) (bytes 6) (bytes 7) (bytes 8), digit4 _ _ _ _ _ _ _ _ (bytes 1) (bytes 2) (bytes 3) (bytes 4) (bytes 5) (bytes 6) (bytes 7) (bytes 8), digit5 _ _ _ _ _ _ _ _ (bytes 1) (bytes 2) (bytes 3) (bytes 4) (bytes 5) (bytes 6) (bytes 7) (bytes 8), digit6 _ _ _ _ _ _ _ _ (bytes 1) (bytes 2) (bytes 3) (bytes 4) (bytes 5) (bytes 6) (bytes 7) (bytes 8), digit7 _ _ _ _ _ _ _ _ (bytes 1) (bytes 2) (bytes 3) (bytes 4) (bytes 5) (bytes 6) (bytes 7) (bytes 8))
+    rw (
+      frame,
+      status .0,
+      status .1,
+      whole,
+      digit0 _ _ _ _ _ _ _ _ (bytes 1) (bytes 2) (bytes 3) (bytes 4) (bytes 5) (bytes 6) (bytes 7) (bytes 8),
+      digit1 _ _ _ _ _ _ _ _ (bytes 1) (bytes 2) (bytes 3) (bytes 4) (bytes 5) (bytes 6) (bytes 7) (bytes 8),
+      digit2 _ _ _ _ _ _ _ _ (bytes 1) (bytes 2)
+          (bytes 3) (bytes 4) (bytes 5) (bytes 6) (bytes 7) (bytes 8),
+      digit3 _ _ _ _ _ _ _ _ (bytes 1) (bytes 2) (bytes 3) (bytes 4) (bytes 5) (bytes 6)
+          (bytes 7) (bytes 8),
+      digit4 _ _ _ _ _ _ _ _ (bytes 1) (bytes 2) (bytes 3) (bytes 4) (bytes 5) (bytes 6) (bytes 7) (bytes 8),
+      digit5 _ _ _ _ _ _ _
+          _ (bytes 1) (bytes 2) (bytes 3) (bytes 4) (bytes 5) (bytes 6) (bytes 7) (bytes 8),
+      digit6 _ _ _ _ _ _ _ _ (bytes 1) (bytes 2) (bytes 3) (bytes 4)
+          (bytes 5) (bytes 6) (bytes 7) (bytes 8),
+      digit7 _ _ _ _ _ _ _ _ (bytes 1) (bytes 2) (bytes 3) (bytes 4) (bytes 5) (bytes 6) (bytes 7) (bytes 8),
+    )
     (sym (fourteen l (eqb-true (length l) 14 (p .0))))

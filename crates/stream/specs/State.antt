@@ -46,4 +46,12 @@ statusOf given b = pick (eqb given 1) (s.Status b) s.None
 -- the state that bytes say
 abbrev pub stateOf : List ℕ → Decoder
 stateOf bytes =
-    record { in_sysex = eqb (getD bytes 0 0) 1; len = stateLength bytes; status = statusOf (getD bytes 9 0) (getD bytes 10 0); have = getD bytes 11 0; data0 = getD bytes 12 0; data1 = getD bytes 13 0 }
+    record {
+      in_sysex = eqb (getD bytes 0 0) 1;
+      len = stateLength bytes;
+      status = statusOf (getD bytes 9 0) (getD bytes 10 0);
+      have = getD bytes 11 0;
+      data0 = getD
+          bytes 12 0;
+      data1 = getD bytes 13 0;
+    }

@@ -33,5 +33,13 @@ none-of-start = refl
 pub none-above : (b : ℕ) → 0xF4 ≤ b → dataLength b ≡ 0
 unfolding dataLength
 none-above b l =
-    rw
-    (le-ltb b 0x80 (omega arith), le-ltb b 0xC0 (omega arith), le-ltb b 0xE0 (omega arith), le-ltb b 0xF0 (omega arith), ne-eqb b 0xF1 (λ e. omega arith), ne-eqb b 0xF2 (λ e. omega arith), ne-eqb b 0xF3 (λ e. omega arith))
+    rw (
+      le-ltb b 0x80 (omega arith),
+      le-ltb b 0xC0 (omega arith),
+      le-ltb b 0xE0 (omega arith),
+      le-ltb b 0xF0 (omega arith),
+      ne-eqb b 0xF1
+          (λ e. omega arith),
+      ne-eqb b 0xF2 (λ e. omega arith),
+      ne-eqb b 0xF3 (λ e. omega arith),
+    )

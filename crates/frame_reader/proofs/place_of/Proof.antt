@@ -19,15 +19,21 @@ prefix-of-requires : tie.Need-prefix-of-requires
 prefix-of-requires c κs = search needs
 
 add-start : tie.Need-add-start
-add-start c = let f = c .before .before .before .before .before .args .frame in
-    omega (arith, c .before .prefix-of .ensures .long, length-wire true (fieldList (f .command) (f .fields .«has_pattern»)) (f .fields), c .before .before .before .before .before .pre)
+add-start c =
+    let a = c .before .before .before .before .before .args in
+    let asked = c .before .before .before .before .before .pre in
+    let f = a .frame in
+    omega (arith, c .before .prefix-of .ensures .long, length-wire true (fieldList (f .command) (f .fields .«has_pattern»)) (f .fields), asked)
 
 sub-t9 : tie.Need-sub-t9
 sub-t9 c = search needs
 
 sub-t10 : tie.Need-sub-t10
-sub-t10 c = let f = c .before .before .before .before .before .args .frame in
-    omega (arith, c .before .prefix-of .ensures .long, length-wire true (fieldList (f .command) (f .fields .«has_pattern»)) (f .fields), c .before .before .before .before .before .pre)
+sub-t10 c =
+    let a = c .before .before .before .before .before .args in
+    let asked = c .before .before .before .before .before .pre in
+    let f = a .frame in
+    omega (arith, c .before .prefix-of .ensures .long, length-wire true (fieldList (f .command) (f .fields .«has_pattern»)) (f .fields), asked)
 
 returns-2 : tie.Need-returns-2
 returns-2 c = let f = c .before .before .before .before .before .args .frame in

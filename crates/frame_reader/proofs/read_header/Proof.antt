@@ -99,8 +99,15 @@ returns-4 c =
     let from-byte2 = c .before .before .before .from-byte2 in
     let d = c .before .before .before .before .before .before .before .before in
     let b = d .before .before .before .before .before .before in
-    rw
-    (le-leb 8 _ (b .if1 .left), sym (d .before .before .before .same-bytes .ensures) ∙ not-false _ (d .before .before .if2 .left), ← d .from-byte .ensures, device .given .1, ← from-byte2 .ensures, c .before .e2 .given .1)
+    rw (
+      le-leb 8 _ (b .if1 .left),
+      sym (d .before .before .before .same-bytes .ensures) ∙ not-false _ (d .before .before .if2 .left),
+      ← d .from-byte
+          .ensures,
+      device .given .1,
+      ← from-byte2 .ensures,
+      c .before .e2 .given .1,
+    )
 
 returns-5 : tie.Need-returns-5
 returns-5 c =
@@ -109,8 +116,19 @@ returns-5 c =
     let k = c .before .before .before .before .before .before .before .before in
     let d = k .before .before .before .before .before in
     let b = d .before .before .before .before .before .before in
-    rw
-    (le-leb 8 _ (b .if1 .left), sym (d .before .before .before .same-bytes .ensures) ∙ not-false _ (d .before .before .if2 .left), ← d .from-byte .ensures, k .before .before .before .device .given .1, ← k .from-byte2 .ensures, command .given .1, ← payload-part (b .before .before .args .bytes .now), ← read-payload .ensures, c .before .e3 .given .1)
+    rw (
+      le-leb 8 _ (b .if1 .left),
+      sym (d .before .before .before .same-bytes .ensures) ∙ not-false _ (d .before .before .if2 .left),
+      ← d .from-byte
+          .ensures,
+      k .before .before .before .device .given .1,
+      ← k .from-byte2 .ensures,
+      command .given .1,
+      ← payload-part
+          (b .before .before .args .bytes .now),
+      ← read-payload .ensures,
+      c .before .e3 .given .1,
+    )
 
 returns-6 : tie.Need-returns-6
 returns-6 c =
@@ -119,8 +137,19 @@ returns-6 c =
     let k = c .before .before .before .before .before .before .before .before in
     let d = k .before .before .before .before .before in
     let b = d .before .before .before .before .before .before in
-    rw
-    (le-leb 8 _ (b .if1 .left), sym (d .before .before .before .same-bytes .ensures) ∙ not-false _ (d .before .before .if2 .left), ← d .from-byte .ensures, k .before .before .before .device .given .1, ← k .from-byte2 .ensures, command .given .1, ← payload-part (b .before .before .args .bytes .now), ← read-payload .ensures, c .before .fields .given .1)
+    rw (
+      le-leb 8 _ (b .if1 .left),
+      sym (d .before .before .before .same-bytes .ensures) ∙ not-false _ (d .before .before .if2 .left),
+      ← d .from-byte
+          .ensures,
+      k .before .before .before .device .given .1,
+      ← k .from-byte2 .ensures,
+      command .given .1,
+      ← payload-part
+          (b .before .before .args .bytes .now),
+      ← read-payload .ensures,
+      c .before .fields .given .1,
+    )
 
 pub read-header-spec : {M : Type 1} → statement M
 read-header-spec =

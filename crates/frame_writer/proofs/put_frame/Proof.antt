@@ -51,7 +51,8 @@ same-length c = let w = c .before .before .before .before .before .before .befor
     let n = c .before .before .before .before .before .before .copy-into in
     let m = c .before .before .copy-into2 in
     simp length-set
-    (length-run (header (a .device) (a .code)) (a .prefix .now) (a .run .now) (a .out .now) s (n .last .1 .0) (m .last .1 .0) refl (w .before .before .before .before .before .pre) (w .put-header .ensures) (n .ensures) _ refl (m .ensures))
+    (length-run (header (a .device) (a .code)) (a .prefix .now) (a .run .now) (a .out .now) s (n .last .1 .0) (m .last .1 .0) refl
+    (w .before .before .before .before .before .pre) (w .put-header .ensures) (n .ensures) _ refl (m .ensures))
 
 returns : tie.Need-returns
 returns c = let w = c .before .before .before .before .before .before .before .before .before .before in

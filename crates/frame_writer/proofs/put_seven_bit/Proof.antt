@@ -50,11 +50,11 @@ returns c =
 returns-2 : tie.Need-returns-2
 returns-2 c =
     let first-high = c .before .before .before .before .before .before .first-high in
-    let enum-told-there = c .before .before .before .before .enum-told in
+    let told = c .before .before .before .before .enum-told in
     let first-high2 = c .before .before .before .first-high2 in
     let a = c .before .before .before .before .before .before .before .before .before .before .args in
     let b = c .before .byte2 .given in
-    let none = sym (first-high .ensures) ∙ enum-told-there .given .1 in
+    let none = sym (first-high .ensures) ∙ told .given .1 in
     seven-refused (a .device) (a .command) (a .prefix .now) (a .run .now) (a .out .now) (b .0 .0)
     (high-append (a .prefix .now) (a .run .now) none ∙ sym (first-high2 .ensures) ∙ b .1)
 

@@ -38,13 +38,13 @@ enum-known-needed c = search needs
 
 returns : tie.Need-returns
 returns c =
-    let enum-told-there = c .before .before .before .before .before .before .enum-told in
+    let told = c .before .before .before .before .before .before .enum-told in
     let needed = c .before .before .needed in
     let prefix-of = c .before .before .before .before .before .prefix-of in
     let frame-len = c .before .before .before .before .frame-len in
     let v = c .before .before .before .before .before .before .before .before in
     let a = v .before .before .before .args in
-    let o = enum-told-there .given in
+    let o = told .given in
     let n = needed .given in
     fields-no-room (a .device) (a .command) (a .fields) (o .0 .0) (a .run .now) (a .out .now) (n .0 .0) _
     (ap fieldsTold (sym (o .1)) ∙ v .check .ensures) (prefix-of .ensures .long) (ap counted (sym (n .1)) ∙ frame-len .ensures) (c .if1 .taken)
@@ -55,8 +55,13 @@ own-len-requires c κs = search needs
 array-share-prefix-bytes : tie.Need-array-share-prefix-bytes
 array-share-prefix-bytes c = let p = c .before .before .before .before .before .before .before in
     let a = p .before .before .before .before .before .before .args in
-    omega
-    (arith, p .prefix-of .ensures .long, prefix-small (a .command) (a .fields), padded-length (prefixOf (a .command) (a .fields)) (p .prefix-of .result .bytes) (p .prefix-of .result .len) (prefix-small (a .command) (a .fields)) (p .prefix-of .ensures))
+    omega (
+      arith,
+      p .prefix-of .ensures .long,
+      prefix-small (a .command) (a .fields),
+      padded-length (prefixOf (a .command) (a .fields))
+          (p .prefix-of .result .bytes) (p .prefix-of .result .len) (prefix-small (a .command) (a .fields)) (p .prefix-of .ensures),
+    )
 
 slice-aggregate-put-seven-bit : tie.Need-slice-aggregate-put-seven-bit
 slice-aggregate-put-seven-bit c = let p = c .before .before .before .before .before .before .before .before in
@@ -87,14 +92,15 @@ returns-2 c = refused-first _ _ (c .before .e .given .0 .0) _ (ap fieldsTold (sy
 
 returns-3 : tie.Need-returns-3
 returns-3 c =
-    let enum-told-there = c .before .before .before .before .before .enum-told in
+    let told = c .before .before .before .before .before .enum-told in
     let frame-len = c .before .before .before .frame-len in
     let prefix-of = c .before .before .before .before .prefix-of in
     let v = c .before .before .before .before .before .before .before in
     let a = v .before .before .before .args in
-    let o = enum-told-there .given in
+    let o = told .given in
     counted-first (checkedFields (a .command) (a .fields)) _ (o .0 .0) _ _ _ (ap fieldsTold (sym (o .1)) ∙ v .check .ensures)
-    (refused-first _ _ (c .before .e2 .given .0 .0) _ (ap counted (sym (c .before .e2 .given .1)) ∙ frame-len .ensures ∙ ap (λ (l : ℕ). lengthFor (a .command) l (length (a .run .now))) (prefix-of .ensures .long)))
+    (refused-first _ _ (c .before .e2 .given .0 .0) _
+    (ap counted (sym (c .before .e2 .given .1)) ∙ frame-len .ensures ∙ ap (λ (l : ℕ). lengthFor (a .command) l (length (a .run .now))) (prefix-of .ensures .long)))
 
 same-length : tie.Need-same-length
 same-length c = search needs

@@ -42,8 +42,11 @@ index-1-with-bit : tie.Need-index-1-with-bit
 index-1-with-bit c = search needs
 
 index-2-with-bit : tie.Need-index-2-with-bit
-index-2-with-bit c = let k = c .before .key .given in
-    let s : k .0 .0 < 128 = rw (ap keyOf (sym (sym (k .1) ∙ c .before .before .before .effect-of .ensures))) at (key-small (c .before .before .before .before .before .args .message)) in
+index-2-with-bit c =
+    let effect-of = c .before .before .before .effect-of in
+    let a = c .before .before .before .before .before .args in
+    let k = c .before .key .given in
+    let s : k .0 .0 < 128 = rw (ap keyOf (sym (sym (k .1) ∙ effect-of .ensures))) at (key-small (a .message)) in
     omega arith
 
 with-bit-requires : tie.Need-with-bit-requires
@@ -59,8 +62,12 @@ index-1-next : tie.Need-index-1-next
 index-1-next c = search needs
 
 index-2-next : tie.Need-index-2-next
-index-2-next c = let k = c .before .before .before .key .given in
-    let s : k .0 .0 < 128 = rw (ap keyOf (sym (sym (k .1) ∙ c .before .before .before .before .before .effect-of .ensures))) at (key-small (c .before .before .before .before .before .before .before .args .message)) in
+index-2-next c =
+    let key = c .before .before .before .key in
+    let effect-of = c .before .before .before .before .before .effect-of in
+    let a = c .before .before .before .before .before .before .before .args in
+    let k = key .given in
+    let s : k .0 .0 < 128 = rw (ap keyOf (sym (sym (k .1) ∙ effect-of .ensures))) at (key-small (a .message)) in
     omega arith
 
 enum-known-key-2 : tie.Need-enum-known-key-2
@@ -79,8 +86,11 @@ index-1-without-bit : tie.Need-index-1-without-bit
 index-1-without-bit c = search needs
 
 index-2-without-bit : tie.Need-index-2-without-bit
-index-2-without-bit c = let k = c .before .key2 .given in
-    let s : k .0 .0 < 128 = rw (ap keyOf (sym (sym (k .1) ∙ c .before .before .before .effect-of .ensures))) at (key-small (c .before .before .before .before .before .args .message)) in
+index-2-without-bit c =
+    let effect-of = c .before .before .before .effect-of in
+    let a = c .before .before .before .before .before .args in
+    let k = c .before .key2 .given in
+    let s : k .0 .0 < 128 = rw (ap keyOf (sym (sym (k .1) ∙ effect-of .ensures))) at (key-small (a .message)) in
     omega arith
 
 without-bit-requires : tie.Need-without-bit-requires
@@ -96,8 +106,12 @@ index-1-next-2 : tie.Need-index-1-next-2
 index-1-next-2 c = search needs
 
 index-2-next-2 : tie.Need-index-2-next-2
-index-2-next-2 c = let k = c .before .before .before .key2 .given in
-    let s : k .0 .0 < 128 = rw (ap keyOf (sym (sym (k .1) ∙ c .before .before .before .before .before .effect-of .ensures))) at (key-small (c .before .before .before .before .before .before .before .args .message)) in
+index-2-next-2 c =
+    let key2 = c .before .before .before .key2 in
+    let effect-of = c .before .before .before .before .before .effect-of in
+    let a = c .before .before .before .before .before .before .before .args in
+    let k = key2 .given in
+    let s : k .0 .0 < 128 = rw (ap keyOf (sym (sym (k .1) ∙ effect-of .ensures))) at (key-small (a .message)) in
     omega arith
 
 enum-told : tie.Need-enum-told

@@ -64,12 +64,18 @@ returns-2 c = let a = c .before .before .before .before .before .before .before 
     (ap commandTold (sym (c .before .before .e .given .1)) ∙ c .before .before .before .before .from-byte .ensures))
 
 returns-3 : tie.Need-returns-3
-returns-3 c = let a = c .before .before .before .before .before .before .before .before .before .args in
+returns-3 c =
+    let pattern-flag-fits = c .before .before .before .before .before .before .before .before .pattern-flag-fits in
+    let if1 = c .before .before .before .before .before .before .before .if1 in
+    let from-tested = c .before .before .from-tested in
+    let known = c .before .before .before .before .known in
+    let from-byte = c .before .before .before .before .before .before .from-byte in
+    let a = c .before .before .before .before .before .before .before .before .before .args in
     length-named (patternFlagFits (a .command) (a .has-pattern)) (lengthAsked (a .command) (a .has-pattern) (a .run-len)) (c .count .result)
-    (sym (c .before .before .before .before .before .before .before .before .pattern-flag-fits .ensures) ∙ not-false _ (c .before .before .before .before .before .before .before .if1 .left))
-    (c .count .ensures ∙ ap answerOf (c .before .encoded-len .ensures ∙ ap (λ (m : Head). headLength m (a .run-len)) (c .before .before .from-tested .ensures))
+    (sym (pattern-flag-fits .ensures) ∙ not-false _ (if1 .left))
+    (c .count .ensures ∙ ap answerOf (c .before .encoded-len .ensures ∙ ap (λ (m : Head). headLength m (a .run-len)) (from-tested .ensures))
     ∙ ap (λ (o : Outcome Command). answerOf (andThen o (λ k. headLength (headFrom k (fieldsFrom 0 0 0 0 0 0 (a .has-pattern) 0 0 0)) (a .run-len))))
-    (ap commandTold (sym (c .before .before .before .before .known .given .1)) ∙ c .before .before .before .before .before .before .from-byte .ensures))
+    (ap commandTold (sym (known .given .1)) ∙ from-byte .ensures))
 
 pub dm-frame-len-spec : {M : Type 1} → statement M
 dm-frame-len-spec =

@@ -29,7 +29,9 @@ no-record-requires c κs = search needs
 returns : tie.Need-returns
 returns c = let a = c .before .before .before .before .args in
     unnamed-told (leb (a .everyone) 1 && patternFlagFits (a .command) (a .has-pattern))
-    (recordWrite (deviceFrom (a .everyone) (a .unit)) (a .command) (fieldsFrom (a .free) (a .version) (a .bank) (a .program) (a .last) (a .pattern) (a .has-pattern) (a .interface) (a .rx) (a .tx)) (a .run .now) (length (a .out .now)))
+    (recordWrite (deviceFrom (a .everyone) (a .unit)) (a .command)
+    (fieldsFrom (a .free) (a .version) (a .bank) (a .program) (a .last) (a .pattern) (a .has-pattern) (a .interface) (a .rx) (a .tx)) (a .run .now)
+    (length (a .out .now)))
     (c .no-record .result) (a .out .now) (rw (lt-leb (a .everyone) 1 (c .before .if1 .taken))) (c .no-record .ensures)
 
 pattern-flag-fits-requires : tie.Need-pattern-flag-fits-requires
@@ -39,10 +41,15 @@ no-record-requires-2 : tie.Need-no-record-requires-2
 no-record-requires-2 c κs = search needs
 
 returns-2 : tie.Need-returns-2
-returns-2 c = let a = c .before .before .before .before .before .before .args in
+returns-2 c =
+    let if1 = c .before .before .before .if1 in
+    let pattern-flag-fits = c .before .before .pattern-flag-fits in
+    let a = c .before .before .before .before .before .before .args in
     unnamed-told (leb (a .everyone) 1 && patternFlagFits (a .command) (a .has-pattern))
-    (recordWrite (deviceFrom (a .everyone) (a .unit)) (a .command) (fieldsFrom (a .free) (a .version) (a .bank) (a .program) (a .last) (a .pattern) (a .has-pattern) (a .interface) (a .rx) (a .tx)) (a .run .now) (length (a .out .now)))
-    (c .no-record2 .result) (a .out .now) (rw (le-leb (a .everyone) 1 (omega (arith, c .before .before .before .if1 .left))) (sym (c .before .before .pattern-flag-fits .ensures) ∙ not-true _ (c .before .if2 .taken)))
+    (recordWrite (deviceFrom (a .everyone) (a .unit)) (a .command)
+    (fieldsFrom (a .free) (a .version) (a .bank) (a .program) (a .last) (a .pattern) (a .has-pattern) (a .interface) (a .rx) (a .tx)) (a .run .now)
+    (length (a .out .now)))
+    (c .no-record2 .result) (a .out .now) (rw (le-leb (a .everyone) 1 (omega (arith, if1 .left))) (sym (pattern-flag-fits .ensures) ∙ not-true _ (c .before .if2 .taken)))
     (c .no-record2 .ensures)
 
 device-of-requires : tie.Need-device-of-requires
@@ -58,15 +65,22 @@ same-length : tie.Need-same-length
 same-length c = search needs
 
 returns-3 : tie.Need-returns-3
-returns-3 c = let a = c .before .before .before .before .before .before .before .before .before .before .before .args in
+returns-3 c =
+    let if1 = c .before .before .before .before .before .before .before .before .if1 in
+    let pattern-flag-fits = c .before .before .before .before .before .before .before .pattern-flag-fits in
+    let if2 = c .before .before .before .before .before .before .if2 in
+    let device-of = c .before .before .before .before .before .device-of in
+    let a = c .before .before .before .before .before .before .before .before .before .before .before .args in
     let w = c .before .before .before .write-record in
     let f = fieldsFrom (a .free) (a .version) (a .bank) (a .program) (a .last) (a .pattern) (a .has-pattern) (a .interface) (a .rx) (a .tx) in
     let o = recordWrite (deviceFrom (a .everyone) (a .unit)) (a .command) f (a .run .now) (length (a .out .now)) in
     named-told (leb (a .everyone) 1 && patternFlagFits (a .command) (a .has-pattern)) o (c .count .result) (a .out .now) (w .last .1 .1 .1 .1 .0)
-    (and-true _ _ (le-leb (a .everyone) 1 (omega (arith, c .before .before .before .before .before .before .before .before .if1 .left)))
-    (sym (c .before .before .before .before .before .before .before .pattern-flag-fits .ensures) ∙ not-false _ (c .before .before .before .before .before .before .if2 .left)))
+    (and-true _ _ (le-leb (a .everyone) 1 (omega (arith, if1 .left)))
+    (sym (pattern-flag-fits .ensures) ∙ not-false _ (if2 .left)))
     (writer-told o (w .result) (c .count .result) (a .out .now) (w .last .1 .1 .1 .1 .0)
-    (subst (λ (d : DeviceId). Writes (recordWrite d (a .command) f (a .run .now) (length (a .out .now))) (w .result) (a .out .now) (w .last .1 .1 .1 .1 .0)) (c .before .before .before .before .before .device-of .ensures) (w .ensures))
+    (subst
+    (λ (d : DeviceId). Writes (recordWrite d (a .command) f (a .run .now) (length (a .out .now))) (w .result) (a .out .now) (w .last .1 .1 .1 .1 .0))
+    (device-of .ensures) (w .ensures))
     (c .count .ensures))
 
 pub dm-frame-write-spec : {M : Type 1} → statement M

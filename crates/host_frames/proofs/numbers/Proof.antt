@@ -50,7 +50,12 @@ cast-t21 : tie.Need-cast-t21
 cast-t21 c = let g = c .struct-known9 .given .1 .1 .1 .1 .1 .1 .1 .1 .1 in record { fits = omega (arith, g .0) }
 
 returns : tie.Need-returns
-returns c = rw (c .before .before .before .flag-of .ensures, c .before .before .before .before .before .before .before .before .before .before .to-byte .ensures, c .before .before .before .before .before .before .before .before .before .before .before .unit-of .ensures, c .before .before .before .before .before .before .before .before .before .before .before .before .everyone-of .ensures)
+returns c =
+    let flag-of = c .before .before .before .flag-of in
+    let to-byte = c .before .before .before .before .before .before .before .before .before .before .to-byte in
+    let unit-of = c .before .before .before .before .before .before .before .before .before .before .before .unit-of in
+    let everyone-of = c .before .before .before .before .before .before .before .before .before .before .before .before .everyone-of in
+    rw (flag-of .ensures, to-byte .ensures, unit-of .ensures, everyone-of .ensures)
 
 pub numbers-spec : {M : Type 1} → statement M
 numbers-spec =

@@ -55,23 +55,34 @@ same-length : tie.Need-same-length
 same-length c = search needs
 
 returns-3 : tie.Need-returns-3
-returns-3 c = let a = c .before .before .before .before .before .before .before .before .before .before .before .before .before .before .args in
-    let x = c .before .before .before .before .before .before .before .before .before .message .given in
-    let e = c .before .before .e .given in
+returns-3 c =
+    let message = c .before .before .before .before .before .before .before .before .before .message in
+    let e = c .before .before .e in
+    let if1 = c .before .before .before .before .before .before .before .before .before .before .before .before .if1 in
+    let from-nibble = c .before .before .before .before .before .before .before .before .before .before .before .from-nibble in
+    let a = c .before .before .before .before .before .before .before .before .before .before .before .before .before .before .args in
+    let x = message .given in
+    let e = e .given in
     let p = c .before .before .before .before .apply in
-    apply-out (channelKind (a .nibble) (a .a) (a .b)) (x .0 .0) (a .channel) (a .keys .now) (p .result) (e .0 .0) (c .refused2 .result) (c .before .before .before .before .before .before .before .before .before .before .before .before .if1 .left)
-    (sym (c .before .before .before .before .before .before .before .before .before .before .before .from-nibble .ensures) ∙ x .1) (e .1) (p .ensures .0) (c .refused2 .ensures)
+    apply-out (channelKind (a .nibble) (a .a) (a .b)) (x .0 .0) (a .channel) (a .keys .now) (p .result) (e .0 .0) (c .refused2 .result) (if1 .left)
+    (sym (from-nibble .ensures) ∙ x .1) (e .1) (p .ensures .0) (c .refused2 .ensures)
 
 same-length-2 : tie.Need-same-length-2
 same-length-2 c = search needs
 
 returns-4 : tie.Need-returns-4
-returns-4 c = let a = c .before .before .before .before .before .before .before .before .before .before .before .before .before .before .before .before .before .args in
-    let x = c .before .before .before .before .before .before .before .before .before .before .before .before .message .given in
+returns-4 c =
+    let message = c .before .before .before .before .before .before .before .before .before .before .before .before .message in
+    let keys-of = c .before .before .before .before .before .before .before .before .before .keys-of in
+    let if1 = c .before .before .before .before .before .before .before .before .before .before .before .before .before .before .before .if1 in
+    let from-nibble = c .before .before .before .before .before .before .before .before .before .before .before .before .before .before .from-nibble in
+    let enum-told2 = c .before .before .before .before .before .enum-told2 in
+    let a = c .before .before .before .before .before .before .before .before .before .before .before .before .before .before .before .before .before .args in
+    let x = message .given in
     let p = c .before .before .before .before .before .before .before .apply in
     let w = c .before .before .before .put-keys in
-    apply-done (channelKind (a .nibble) (a .a) (a .b)) (x .0 .0) (a .channel) (a .keys .now) (w .last .1 .0) (c .before .before .before .before .before .before .before .before .before .keys-of .result) _ (p .result) (c .done .result) (c .before .before .before .before .before .before .before .before .before .before .before .before .before .before .before .if1 .left)
-    (sym (c .before .before .before .before .before .before .before .before .before .before .before .before .before .before .from-nibble .ensures) ∙ x .1) (c .before .before .before .before .before .enum-told2 .given .1) (p .ensures .0) (c .before .before .before .before .before .before .before .before .before .keys-of .ensures) (p .ensures .1) (w .ensures) (c .done .ensures)
+    apply-done (channelKind (a .nibble) (a .a) (a .b)) (x .0 .0) (a .channel) (a .keys .now) (w .last .1 .0) (keys-of .result) _ (p .result) (c .done .result) (if1 .left)
+    (sym (from-nibble .ensures) ∙ x .1) (enum-told2 .given .1) (p .ensures .0) (keys-of .ensures) (p .ensures .1) (w .ensures) (c .done .ensures)
 
 pub dm-held-apply-spec : {M : Type 1} → statement M
 dm-held-apply-spec =

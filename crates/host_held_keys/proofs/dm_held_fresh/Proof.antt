@@ -23,9 +23,12 @@ same-length : tie.Need-same-length
 same-length c = search needs
 
 returns-2 : tie.Need-returns-2
-returns-2 c = let a = c .before .before .before .before .before .before .before .before .args in
+returns-2 c =
+    let new = c .before .before .before .before .before .new in
+    let if1 = c .before .before .before .before .before .before .if1 in
+    let a = c .before .before .before .before .before .before .before .before .args in
     let p = c .before .before .before .put-keys in
-    fresh-written (a .keys .now) (p .last .1 .0) (c .before .before .before .before .before .new .result) (c .done .result) (c .before .before .before .before .before .before .if1 .left) (c .before .before .before .before .before .new .ensures) (p .ensures) (c .done .ensures)
+    fresh-written (a .keys .now) (p .last .1 .0) (new .result) (c .done .result) (if1 .left) (new .ensures) (p .ensures) (c .done .ensures)
 
 pub dm-held-fresh-spec : {M : Type 1} → statement M
 dm-held-fresh-spec =

@@ -51,7 +51,11 @@ returns-2 c =
     named-told (leb (a .everyone) 1) o (c .count .result) (a .out .now) (w .last .1 .0)
     (le-leb (a .everyone) 1 (omega (arith, if1 .left)))
     (writer-told o (w .result) (c .count .result) (a .out .now) (w .last .1 .0)
-    (subst (λ (d : DeviceId). Writes (replyWrite (record { device = d; firmware = record { major = a .major; minor = a .minor }; voice = record { major = a .voice-major; minor = a .voice-minor } }) (length (a .out .now))) (w .result) (a .out .now) (w .last .1 .0)) (device-of .ensures) (w .ensures))
+    (subst
+    (λ (d : DeviceId). Writes (replyWrite
+    (record { device = d; firmware = record { major = a .major; minor = a .minor }; voice = record { major = a .voice-major; minor = a .voice-minor } })
+    (length (a .out .now))) (w .result) (a .out .now) (w .last .1 .0))
+    (device-of .ensures) (w .ensures))
     (c .count .ensures))
 
 pub dm-reply-write-spec : {M : Type 1} → statement M

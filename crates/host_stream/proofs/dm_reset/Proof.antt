@@ -32,12 +32,12 @@ same-length c = search needs
 returns-2 : tie.Need-returns-2
 returns-2 c =
     let if1 = c .before .before .before .before .before .before .before .before .if1 in
-    let reset-there = c .before .before .before .before .before .reset in
+    let after-reset = c .before .before .before .before .before .reset in
     let state-of = c .before .before .before .before .before .before .state-of in
     let a = c .before .before .before .before .before .before .before .before .before .before .args in
     let p = c .before .before .before .put-state in
     state-sent (reset (stateOf (a .state .now))) (a .state .now) (p .last .1 .0) (c .done .result) (if1 .left)
-    (p .ensures ∙ ap encoded (reset-there .ensures ∙ ap reset (state-of .ensures))) (c .done .ensures)
+    (p .ensures ∙ ap encoded (after-reset .ensures ∙ ap reset (state-of .ensures))) (c .done .ensures)
 
 pub dm-reset-spec : {M : Type 1} → statement M
 dm-reset-spec =

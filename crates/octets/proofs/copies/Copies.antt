@@ -30,7 +30,10 @@ copied-all from to i e = rw (e, take-all (length from) from (omega arith))
 -- eight stores in a row
 pub copied-eight : (from to l : List ℕ) (i n : ℕ) → n ≡ i + 8 → n ≤ length from → length from ≤ length to → l ≡ copied from to i
     → set
-    (set (set (set (set (set (set (set l i (getD from i 0)) (i + 1) (getD from (i + 1) 0)) (i + 2) (getD from (i + 2) 0)) (i + 3) (getD from (i + 3) 0)) (i + 4) (getD from (i + 4) 0)) (i + 5) (getD from (i + 5) 0)) (i + 6) (getD from (i + 6) 0))
+    (set
+    (set (set (set (set (set (set l i (getD from i 0)) (i + 1) (getD from (i + 1) 0)) (i + 2) (getD from (i + 2) 0)) (i + 3) (getD from (i + 3) 0))
+    (i + 4) (getD from (i + 4) 0)) (i + 5) (getD from (i + 5) 0))
+    (i + 6) (getD from (i + 6) 0))
     (i + 7) (getD from (i + 7) 0)
     ≡ copied from to n
 copied-eight from to l i n e h room s =

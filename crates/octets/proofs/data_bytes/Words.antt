@@ -88,7 +88,8 @@ seen-more l i all h e = split (ltb all 0x80) low high
         let seen : i ≤ dataRun l = leb-true i (dataRun l) (sym e ∙ t) in
         split (ltb b 0x80)
         (λ s. lt-ltb (bitOr all b) 0x80 (or-lt 7 all b (ltb-true all 0x80 t) (ltb-true b 0x80 s)) ∙ sym (le-leb (i + 1) (dataRun l) (run-more l i seen h (ltb-true b 0x80 s))))
-        (λ s. le-ltb (bitOr all b) 0x80 (omega (arith, or-right all b, ltb-false b 0x80 s)) ∙ sym (lt-leb (i + 1) (dataRun l) (omega (arith, run-ends l i seen (ltb-false b 0x80 s)))))
+        (λ s. le-ltb (bitOr all b) 0x80 (omega (arith, or-right all b, ltb-false b 0x80 s)) ∙ sym
+        (lt-leb (i + 1) (dataRun l) (omega (arith, run-ends l i seen (ltb-false b 0x80 s)))))
 
     high : ltb all 0x80 ≡ false → ltb (bitOr all b) 0x80 ≡ leb (i + 1) (dataRun l)
     high t =

@@ -46,7 +46,10 @@ of-bytes l at bytes law = law _ _ _ _ _ _ _ _ (bytes at) (bytes (at + 1)) (bytes
 -- a word that was read, stored
 pub word-stored : (from l : List ℕ) (i j w : ℕ) → ((k : ℕ) → getD from k 0 < 256) → w ≡ wordAt from i
     → putWord w l j ≡ set
-    (set (set (set (set (set (set (set l j (getD from i 0)) (j + 1) (getD from (i + 1) 0)) (j + 2) (getD from (i + 2) 0)) (j + 3) (getD from (i + 3) 0)) (j + 4) (getD from (i + 4) 0)) (j + 5) (getD from (i + 5) 0)) (j + 6) (getD from (i + 6) 0))
+    (set
+    (set (set (set (set (set (set l j (getD from i 0)) (j + 1) (getD from (i + 1) 0)) (j + 2) (getD from (i + 2) 0)) (j + 3) (getD from (i + 3) 0))
+    (j + 4) (getD from (i + 4) 0)) (j + 5) (getD from (i + 5) 0))
+    (j + 6) (getD from (i + 6) 0))
     (j + 7) (getD from (i + 7) 0)
 word-stored from l i j w bytes e =
     ap (λ (x : ℕ). putWord x l j) e
@@ -87,7 +90,10 @@ pub word-window : (w : ℕ) (l : List ℕ) (at : ℕ) → at + 8 ≤ length l �
 word-window w l at h =
     let whole : w ≡ w / 1 = omega arith in
     ap
-        (λ (x : ℕ). set (set (set (set (set (set (set (set l at (x % 256)) (at + 1) (octet w 1)) (at + 2) (octet w 2)) (at + 3) (octet w 3)) (at + 4) (octet w 4)) (at + 5) (octet w 5)) (at + 6) (octet w 6)) (at + 7) (octet w 7))
-        whole
+    (λ (x : ℕ). set
+    (set (set (set (set (set (set (set l at (x % 256)) (at + 1) (octet w 1)) (at + 2) (octet w 2)) (at + 3) (octet w 3)) (at + 4) (octet w 4))
+    (at + 5) (octet w 5)) (at + 6) (octet w 6))
+    (at + 7) (octet w 7))
+    whole
     ∙ in-a-row l at (octet w 0) (octet w 1) (octet w 2) (octet w 3) (octet w 4) (octet w 5) (octet w 6) (octet w 7)
     ∙ sets-eq (tab (octet w) 8) l at h

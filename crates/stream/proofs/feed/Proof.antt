@@ -63,7 +63,9 @@ same-length-2 c = search needs
 
 returns-3 : tie.Need-returns-3
 returns-3 c =
-    let slice-known = c .before .before .before .before .before .before .before .before .before .before .before .before .before .before .before
+    let before-there = c .before .before .before .before .before .before .before .before .before .before .before .before .before .before .before .before .before in
+    let before = c .before .before .before .before .before .before .before .before .before .before .before .before .before .before .before in
+    let slice-known = before
     .before .before .before .before .before .slice-known in
     let if2 = c .before .before .before .before .before .before .before .before .before .before .before .before .before .before .before .before .if2 in
     let if1 = c .before .before .before .before .before .before .before .before .before .before .before .before .before .before .before .before .before .if1 in
@@ -73,11 +75,13 @@ returns-3 c =
     let takes = c .before .before .before .before .before .before .before .before .takes in
     let if3 = c .before .before .before .before .before .before .before .if3 in
     let walk = c .before .before .before .before .walk in
-    let a = c .before .before .before .before .before .before .before .before .before .before .before .before .before .before .before .before .before .before .before .before .before .args in
+    let a = before-there
+    .before .before .before .before .args in
     let small : (i : ℕ) → getD (a .state .now) i 0 < 256 = λ i. omega (arith, slice-known .given i) in
     let room : limit ≤ length (a .store .now) = omega (arith, if2 .left, limit-is) in
     walked-so (a .state .now) (a .store .now) (a .bytes .now) _ _ _ _
-    (taken-walks (a .state .now) (if1 .left) small (a .store .now) (a .bytes .now) room (rw (front-of .ensures, above-of .ensures, middle-of .ensures) at (sym (takes .ensures) ∙ if3 .taken)))
+    (taken-walks (a .state .now) (if1 .left) small (a .store .now) (a .bytes .now) room
+    (rw (front-of .ensures, above-of .ensures, middle-of .ensures) at (sym (takes .ensures) ∙ if3 .taken)))
     (walk .ensures)
 
 refused-requires-3 : tie.Need-refused-requires-3
@@ -99,7 +103,8 @@ returns-4 c =
     let small : (i : ℕ) → getD (a .state .now) i 0 < 256 = λ i. omega (arith, slice-known .given i) in
     let room : limit ≤ length (a .store .now) = omega (arith, if2 .left, limit-is) in
     refused-so (a .state .now) (a .store .now) (a .bytes .now) _
-    (untaken-refused (a .state .now) (if1 .left) small (a .store .now) (a .bytes .now) (rw (front-of .ensures, above-of .ensures, middle-of .ensures) at (sym (takes .ensures) ∙ (c .before .if3) .left)))
+    (untaken-refused (a .state .now) (if1 .left) small (a .store .now) (a .bytes .now)
+    (rw (front-of .ensures, above-of .ensures, middle-of .ensures) at (sym (takes .ensures) ∙ (c .before .if3) .left)))
     ((c .refused3) .ensures)
 
 pub feed-spec : {M : Type 1} → statement M

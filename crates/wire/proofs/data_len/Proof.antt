@@ -45,8 +45,16 @@ returns-7 c =
     let if3 = c .before .before .before .before .if3 in
     let if4 = c .before .before .before .if4 in
     let if5 = c .before .before .if5 in
-    rw
-    (le-ltb _ _ (if1 .left), le-ltb _ _ (if2 .left), le-ltb _ _ (if3 .left), le-ltb _ _ (if4 .left), ne-eqb _ _ (if5 .left), ne-eqb _ _ (c .before .if6 .left), eq-eqb _ _ (c .if7 .taken))
+    rw (
+      le-ltb _ _ (if1 .left),
+      le-ltb _ _ (if2 .left),
+      le-ltb _ _ (if3 .left),
+      le-ltb _ _ (if4 .left),
+      ne-eqb _ _ (if5 .left),
+      ne-eqb _ _
+          (c .before .if6 .left),
+      eq-eqb _ _ (c .if7 .taken),
+    )
 
 returns-8 : tie.Need-returns-8
 unfolding dataLength
@@ -56,8 +64,16 @@ returns-8 c =
     let if3 = c .before .before .before .before .if3 in
     let if4 = c .before .before .before .if4 in
     let if5 = c .before .before .if5 in
-    rw
-    (le-ltb _ _ (if1 .left), le-ltb _ _ (if2 .left), le-ltb _ _ (if3 .left), le-ltb _ _ (if4 .left), ne-eqb _ _ (if5 .left), ne-eqb _ _ (c .before .if6 .left), ne-eqb _ _ (c .if7 .left))
+    rw (
+      le-ltb _ _ (if1 .left),
+      le-ltb _ _ (if2 .left),
+      le-ltb _ _ (if3 .left),
+      le-ltb _ _ (if4 .left),
+      ne-eqb _ _ (if5 .left),
+      ne-eqb _ _
+          (c .before .if6 .left),
+      ne-eqb _ _ (c .if7 .left),
+    )
 
 pub data-len-spec : {M : Type 1} → statement M
 data-len-spec =

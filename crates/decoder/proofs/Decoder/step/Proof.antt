@@ -34,11 +34,11 @@ returns-2 : tie.Need-returns-2
 returns-2 c =
     let if1 = c .before .before .if1 in
     let class-of = c .before .before .before .before .before .before .class-of in
-    let enum-told-there = c .before .before .before .before .enum-told in
+    let told = c .before .before .before .before .enum-told in
     let a = c .before .before .before .before .before .before .before .before .args in
     let over : limit ≤ a .self .len = omega (arith, limit-is) in
     let eqs = data-over (a .self) (a .store .now) (a .byte) (not-false (a .self .in_sysex) (if1 .left)) over in
-    step-by k.Data (a .self) (a .store .now) (a .byte) (sym (class-of .ensures) ∙ enum-told-there .given .1) _ _
+    step-by k.Data (a .self) (a .store .now) (a .byte) (sym (class-of .ensures) ∙ told .given .1) _ _
     (c .too-long .ensures ∙ sym (eqs .0)) (sym (eqs .1))
 
 slice-write-store : tie.Need-slice-write-store
@@ -148,11 +148,11 @@ returns-5 : tie.Need-returns-5
 returns-5 c =
     let if1 = c .before .before .before .if1 in
     let class-of = c .before .before .before .before .before .before .before .class-of in
-    let enum-told-there = c .before .before .before .before .before .enum-told in
+    let told = c .before .before .before .before .before .enum-told in
     let a = c .before .before .before .before .before .before .before .before .before .args in
     let fits : a .self .len < limit = omega (arith, limit-is) in
     let eqs = data-fits (a .self) (a .store .now) (a .byte) (not-false (a .self .in_sysex) (if1 .left)) fits in
-    step-by k.Data (a .self) (a .store .now) (a .byte) (sym (class-of .ensures) ∙ enum-told-there .given .1) _ _
+    step-by k.Data (a .self) (a .store .now) (a .byte) (sym (class-of .ensures) ∙ told .given .1) _ _
     (rw (c .silent .ensures, c .before .longer .ensures) (sym (eqs .0))) (sym (eqs .1))
 
 returns-6 : tie.Need-returns-6

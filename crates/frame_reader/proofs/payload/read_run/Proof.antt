@@ -71,7 +71,7 @@ returns-3 c =
     let if1 = c .before .before .before .before .before .before .if1 in
     let to-byte = c .before .before .before .before .before .before .before .before .to-byte in
     let if2 = c .before .before .before .before .before .if2 in
-    let enum-told-there = c .before .before .enum-told in
+    let told = c .before .before .enum-told in
     let unpacked-len = c .before .before .before .before .unpacked-len in
     let b = c .before .before .before .before .before .before .before .before .before .before in
     let a = b .args in
@@ -81,7 +81,7 @@ returns-3 c =
     let n : ℕ = length p - prefixLength (a .command) in
     let least : prefixLength (a .command) ≤ length p = omega (arith, e, if1 .left) in
     let code = sym (to-byte .ensures) ∙ if2 .taken in
-    let given = unpacked-given n (enum-told-there .given .0 .0) (rw e at (ap counted (sym (enum-told-there .given .1)) ∙ unpacked-len .ensures)) in
+    let given = unpacked-given n (told .given .0 .0) (rw e at (ap counted (sym (told .given .1)) ∙ unpacked-len .ensures)) in
     c .check-small .ensures ∙ ap smallChecked (c .before .front .ensures) ∙ sym (fields-tested (a .command) false p (b .pre))
     ∙ rw (given .1) at (any-run (a .command) (a .version .0) p least code)
 

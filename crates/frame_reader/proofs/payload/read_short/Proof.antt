@@ -31,11 +31,11 @@ check-small-requires c κs = search needs
 returns-2 : tie.Need-returns-2
 returns-2 c =
     let row = c .before .before .before .row in
-    let pre-there = c .before .before .before .before .before .pre in
+    let asked = c .before .before .before .before .before .pre in
     let if1 = c .before .before .if1 in
     let a = c .before .before .before .before .before .args in
     let e : row .result .«prefix_len» ≡ prefixLength (a .command) = ap (λ (r : Row). r .«prefix_len») (row .ensures) in
-    c .check-small .ensures ∙ ap smallChecked (c .before .front .ensures) ∙ sym (fields-untested (a .command) false (a .payload .now) pre-there) ∙ rw
+    c .check-small .ensures ∙ ap smallChecked (c .before .front .ensures) ∙ sym (fields-untested (a .command) false (a .payload .now) asked) ∙ rw
     (eq-eqb (length (a .payload .now)) (prefixLength (a .command)) (if1 .left ∙ e))
 
 pub read-short-spec : {M : Type 1} → statement M

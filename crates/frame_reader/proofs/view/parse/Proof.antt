@@ -120,23 +120,33 @@ module _ {M : Type 1} (𝓤 : URA M) (H : Heap 𝓤) (A : Atoms 𝓤) (W : Given
       → ent 𝓤 (⋆ 𝓤 H A (‵ (Own x (v x)) ∷ (‵ (flft κ q) ⊛ ‵ ftrue) ∷ ‵ (Own s (v s)) ∷ [])) (Post (mach r x))
   exits r x e lent is =
       qed W (‵ (Own x (v x)) ∷ (‵ (flft κ q) ⊛ ‵ ftrue) ∷ ‵ (Own s (v s)) ∷ []) ∵
-      suffices ! _ (ends-at 𝓤 H A parse.ended stayed (parse.clauses 𝓤 H A mem run) W (((κ, tt), (q, tt), tt, (s, tt), at), tt) (mach r x) (made r x) (tt, tt) (tt, tt)) $ says ! (e, lent) $
+      suffices ! _
+      (ends-at 𝓤 H A parse.ended stayed (parse.clauses 𝓤 H A mem run) W (((κ, tt), (q, tt), tt, (s, tt), at), tt) (mach r x) (made r x) (tt, tt) (tt, tt))
+      $ says ! (e, lent) $
       move ! (1 ∷ []) $ frame ! $ nothing ! $ move ! (2 ∷ 0 ∷ []) $ fjoin ! $ frame ! $
       -- [what the run owns]: with the answer's facts it is what the struct owns
-      nothing ! $ move ! (1 ∷ 0 ∷ []) $ fjoin ! $ owned ! E.the-row (Is E.the-row) (EL.makes E.the-type E′.the-plain 𝓤 H A) r _ is $ fjoin ! $ by ! (own-shut 𝓤 H A W (T.the-type α) (T′.the-laws α) (r, (x, tt)))
+      nothing ! $ move ! (1 ∷ 0 ∷ []) $ fjoin ! $ owned ! E.the-row (Is E.the-row) (EL.makes E.the-type E′.the-plain 𝓤 H A) r _ is $ fjoin ! $ by !
+      (own-shut 𝓤 H A W (T.the-type α) (T′.the-laws α) (r, (x, tt)))
 
-  module _ (C : Calls 𝓤 H) (Λ : Loops 𝓤 H) (fm : FmC 𝓤 H (W .laws) C) (known-read : Triple 𝓤 (C #reader) (Read 𝓤 H A mem run)) (known-run : Triple 𝓤 (C #run-of) (Run 𝓤 H A mem run)) where
+  module _ (C : Calls 𝓤 H) (Λ : Loops 𝓤 H) (fm : FmC 𝓤 H (W .laws) C) (known-read : Triple 𝓤 (C #reader) (Read 𝓤 H A mem run))
+      (known-run : Triple 𝓤 (C #run-of) (Run 𝓤 H A mem run)) where
     walk : Is (ShrSlice (named 0) κ u8) s (v s ∷ []) → ent 𝓤 (onEntry 𝓤 H A parse.signature (κ, tt) (q, tt) (s, tt) at) (WpFn 𝓤 H C Λ code.function (v s ∷ []) Post)
     walk p =
         qed W ((‵ (flft κ q) ⊛ ‵ ftrue) ∷ ‵ (owns (ShrSlice (named 0) κ u8 ∷ []) (s, tt) at) ∷ []) ∵ enter ! C Λ code.function (v s ∷ []) _ $
-        alloc1 ! (λ l₀. alloc1 ! (λ l₁. alloc1 ! (λ l₂. alloc1 ! (λ l₃. alloc0 ! $ params1 ! $ pass1 ! (init ! 4 refl (shr-slice-lawful 𝓤 H A W (named 0) κ u8 .typed s (v s ∷ []) p .0)) $ pass0 ! $
+        alloc1 !
+        (λ l₀. alloc1 !
+        (λ l₁. alloc1 ! (λ l₂. alloc1 ! (λ l₃. alloc0 ! $ params1 ! $ pass1 ! (init ! 4 refl (shr-slice-lawful 𝓤 H A W (named 0) κ u8 .typed s (v s ∷ []) p .0)) $ pass0 ! $
         -- [_3; …; _2; …; _1; …; room for _0; …; the token; what the bytes own]
         move ! (9 ∷ []) $ fsplit ! $ use1 W (‵ (Own s (v s)) ⊛ ‵ (Own s (v s))) (shr-slice-copy 𝓤 H A W (named 0) κ u8 .twice s (v s ∷ [])) $ split ! $
         use1 W (‵ (Own s (v s)) ⊛ ‵ (Own s (v s))) (shr-slice-copy 𝓤 H A W (named 0) κ u8 .twice s (v s ∷ [])) $ split ! $
         nothing ! $ move ! (1 ∷ 0 ∷ []) $ fjoin ! $ move ! (12 ∷ 0 ∷ []) $ use2 W (raw (Read 𝓤 H A mem run .pre to-read)) asks-read $
         -- [what the first call asks; what the bytes own, twice; true; _3; …]
         calls-at ! fm (Read 𝓤 H A mem run) known-read to-read (and-then ! (load ! (from ! (stop !)) (look ! 8 refl)) (no-more !)) (λ u.
-        use1 W (later (some (λ (r : FrameAnswer). ((‵ (flft κ q) ⊛ ‵ ftrue) ⊛ ‵ (E.the-row .own r (u ∷ []))) ⊛ raw (ensured 𝓤 H A reader.ended (reader.clauses 𝓤 H A mem run) (κ, tt) (s, tt) tt r)))) (id⊢ 𝓤 _) $ await ! tt $ pick ! (λ r.
+        use1 W
+        (later
+        (some (λ (r : FrameAnswer). ((‵ (flft κ q) ⊛ ‵ ftrue) ⊛ ‵ (E.the-row .own r (u ∷ []))) ⊛ raw
+        (ensured 𝓤 H A reader.ended (reader.clauses 𝓤 H A mem run) (κ, tt) (s, tt) tt r))))
+        (id⊢ 𝓤 _) $ await ! tt $ pick ! (λ r.
         split ! $ move ! (1 ∷ []) $ use1 W (raw (fact 𝓤 (frameTold r ≡ parsed (now s)))) (read-said r) $ heard ! (frameTold r ≡ parsed (now s)) (λ e. split ! $ move ! (1 ∷ []) $
         -- [what the answer owns; the token; what the bytes own, twice; true; room for _3; …]
         peeks ! E.the-row (Is E.the-row) (shows 𝓤 H A E.the-row) r (u ∷ []) (λ is.
@@ -145,7 +155,9 @@ module _ {M : Type 1} (𝓤 : URA M) (H : Heap 𝓤) (A : Atoms 𝓤) (W : Given
         nothing ! $ move ! (2 ∷ 0 ∷ []) $ fjoin ! $ move ! (1 ∷ 0 ∷ []) $ use2 W (raw (Run 𝓤 H A mem run .pre to-run)) asks-run $
         -- [what the second call asks; what the bytes own; true; room for _3; …]
         calls-at ! fm (Run 𝓤 H A mem run) known-run to-run (and-then ! (load ! (from ! (stop !)) (look ! 7 refl)) (no-more !)) (λ u′.
-        use1 W (later (some (λ (x : RefT (List ℕ)). ((‵ (flft κ q) ⊛ ‵ ftrue) ⊛ ‵ (Own x u′)) ⊛ raw (ensured 𝓤 H A run-of.ended (run-of.clauses 𝓤 H A mem run) (κ, tt) (s, tt) tt x)))) (id⊢ 𝓤 _) $ await ! tt $ pick ! (λ x.
+        use1 W
+        (later (some (λ (x : RefT (List ℕ)). ((‵ (flft κ q) ⊛ ‵ ftrue) ⊛ ‵ (Own x u′)) ⊛ raw (ensured 𝓤 H A run-of.ended (run-of.clauses 𝓤 H A mem run) (κ, tt) (s, tt) tt x))))
+        (id⊢ 𝓤 _) $ await ! tt $ pick ! (λ x.
         split ! $ move ! (1 ∷ []) $ use1 W (raw (fact 𝓤 (RunLent s x))) (run-said x) $ heard ! (RunLent s x) (λ lent. split ! $ move ! (1 ∷ []) $
         -- [what the run owns; the token; what the bytes own; true; room for _3; …; _2; …; _1; …; room for _0; …]
         peeks ! (ShrSlice (named 0) κ u8) (Is (ShrSlice (named 0) κ u8)) (shows 𝓤 H A (ShrSlice (named 0) κ u8)) x (u′ ∷ []) (λ is′.
@@ -154,7 +166,10 @@ module _ {M : Type 1} (𝓤 : URA M) (H : Heap 𝓤) (A : Atoms 𝓤) (W : Given
         land ! (from ! (stop !)) (init ! 4 refl (shr-slice-lawful 𝓤 H A W erased κ u8 .typed x _ is′ .0)) $
         rewrite ! 4 (λ (z : Val). ‵ (fat fullShare (sliceTy (tyRef erased imm (tyInt w8))) l₃ 0 z)) (ap only (shr-slice-tells (named 0) κ u8 x _ is′)) refl $
         rewrite ! 0 (λ (us : List Val). ‵ (ShrSlice (named 0) κ u8 .own x us)) (shr-slice-tells (named 0) κ u8 x _ is′) refl $
-        assigns ! (agg ! (and-then ! (load ! (from ! (stop !)) (look ! 6 refl)) (and-then ! (load ! (from ! (stop !)) (look ! 4 refl)) (no-more !)))) (from ! (stop !)) (init ! 10 refl (LL.lawful (T.the-type α) (T′.the-laws α) 𝓤 H A W .typed (made r x) _ (LL.owes (T.the-type α) (T′.the-laws α) (made r x) (answer-is, (run-is, tt))) .0)) $
+        assigns ! (agg ! (and-then ! (load ! (from ! (stop !)) (look ! 6 refl)) (and-then ! (load ! (from ! (stop !)) (look ! 4 refl)) (no-more !))))
+        (from ! (stop !))
+        (init ! 10 refl (LL.lawful (T.the-type α) (T′.the-laws α) 𝓤 H A W .typed (made r x) _ (LL.owes (T.the-type α) (T′.the-laws α) (made r x) (answer-is, (run-is, tt))) .0))
+        $
         returns ! (look ! 10 refl) $ forget ! 4 refl $ forget ! 6 refl $ forget ! 8 refl $ forget ! 10 refl $
         move ! (10 ∷ 11 ∷ []) $ free1 ! $ move ! (8 ∷ 9 ∷ []) $ free1 ! $ move ! (6 ∷ 7 ∷ []) $ free1 ! $ move ! (4 ∷ 5 ∷ []) $ free1 ! $ free0 ! $
         keep ! (0 ∷ 1 ∷ 2 ∷ []) $ by ! (exits r x e lent answer-is)))))))))))))

@@ -75,7 +75,8 @@ stayed = (stay-none B yes, (gave-slice (1 ∷ []) tt (plain (λ _. u8)), tt))
 abbrev Write : {M : Type 1} (𝓤 : URA M) (H : Heap 𝓤) (A : Atoms 𝓤) (mem : Memory → SProp 𝓤) (run : Routine → Fun 𝓤) → Contract 𝓤
 Write 𝓤 H A mem run = tripleOf 𝓤 H A writer.signature (writer.spec 𝓤 H A mem run)
 
-module _ {M : Type 1} (𝓤 : URA M) (H : Heap 𝓤) (A : Atoms 𝓤) (W : Given 𝓤 H A) (mem : Memory → SProp 𝓤) (run : Routine → Fun 𝓤) (κ κ₁ : Lft) (q q₁ : Share) (bounds : AllOutlive 2 (encode.signature .outlives) (κ, (κ₁, tt))) (f : Frame) (o : RefT (List ℕ)) where
+module _ {M : Type 1} (𝓤 : URA M) (H : Heap 𝓤) (A : Atoms 𝓤) (W : Given 𝓤 H A) (mem : Memory → SProp 𝓤) (run : Routine → Fun 𝓤) (κ κ₁ : Lft)
+    (q q₁ : Share) (bounds : AllOutlive 2 (encode.signature .outlives) (κ, (κ₁, tt))) (f : Frame) (o : RefT (List ℕ)) where
   -- the struct's type and laws, and f's fields' values
   abbrev S : Declared
   S = T.the-type (namedLft 2 0 tt (κ, (κ₁, tt)))
@@ -113,7 +114,9 @@ module _ {M : Type 1} (𝓤 : URA M) (H : Heap 𝓤) (A : Atoms 𝓤) (W : Given
   to = (((κ, (κ₁, tt)), (q, (q₁, tt)), tt, (said f, (f .run, (o, tt))), passed), tt)
 
   asks : ent 𝓤 (onEntry 𝓤 H A writer.signature (κ, (κ₁, tt)) (q, (q₁, tt)) (said f, (f .run, (o, tt))) passed) (Write 𝓤 H A mem run .pre to)
-  asks = qed W ((‵ (flft κ q) ⊛ ‵ (flft κ₁ q₁) ⊛ ‵ ftrue) ∷ ‵ (owns (F.the-row ∷ ShrSlice (named 0) κ u8 ∷ MutSlice (named 1) κ₁ u8 ∷ []) (said f, (f .run, (o, tt))) passed) ∷ []) ∵ join ! $ frame ! $ done !
+  asks = qed W
+      ((‵ (flft κ q) ⊛ ‵ (flft κ₁ q₁) ⊛ ‵ ftrue) ∷ ‵ (owns (F.the-row ∷ ShrSlice (named 0) κ u8 ∷ MutSlice (named 1) κ₁ u8 ∷ []) (said f, (f .run, (o, tt))) passed) ∷ [])
+      ∵ join ! $ frame ! $ done !
 
   abbrev Said : Count → List ℕ → Type 0
   Said r zs = Writes (frameWrite (said f) (now (f .run)) (length (now o))) r (now o) zs
@@ -122,7 +125,9 @@ module _ {M : Type 1} (𝓤 : URA M) (H : Heap 𝓤) (A : Atoms 𝓤) (W : Given
       → ent 𝓤 (⋆ 𝓤 H A (‵ (R.the-row .own r (u ∷ [])) ∷ (‵ (flft κ q) ⊛ ‵ (flft κ₁ q₁) ⊛ ‵ ftrue) ∷ ‵ (finally u8 (o .name) zs) ∷ ‵ Own ∷ [])) (Post u)
   exits r u zs e l =
       qed W (‵ (R.the-row .own r (u ∷ [])) ∷ (‵ (flft κ q) ⊛ ‵ (flft κ₁ q₁) ⊛ ‵ ftrue) ∷ ‵ (finally u8 (o .name) zs) ∷ ‵ Own ∷ []) ∵
-      suffices ! _ (ends-at 𝓤 H A encode.ended stayed (encode.clauses 𝓤 H A mem run) W (((κ, (κ₁, tt)), (q, (q₁, tt)), bounds, (f, (o, tt)), at), tt) u r (tt, (zs, tt)) (tt, (l, tt))) $ says ! e $
+      suffices ! _
+      (ends-at 𝓤 H A encode.ended stayed (encode.clauses 𝓤 H A mem run) W (((κ, (κ₁, tt)), (q, (q₁, tt)), bounds, (f, (o, tt)), at), tt) u r (tt, (zs, tt)) (tt, (l, tt)))
+      $ says ! e $
       move ! (1 ∷ []) $ frame ! $ nothing ! $ move ! (2 ∷ 0 ∷ []) $ fjoin ! $ move ! (2 ∷ 0 ∷ []) $ fjoin ! $ frame ! $ done !
 
   module _ (C : Calls 𝓤 H) (Λ : Loops 𝓤 H) (fm : FmC 𝓤 H (W .laws) C) (known : Triple 𝓤 (C #writer) (Write 𝓤 H A mem run)) where
@@ -131,31 +136,52 @@ module _ {M : Type 1} (𝓤 : URA M) (H : Heap 𝓤) (A : Atoms 𝓤) (W : Given
     walk is p =
         let fields = LL.owed S L f _ is in
         let said-is : Is F.the-row (said f) (LL.vals F.the-type F′.the-laws (said f)) = LL.owes F.the-type F′.the-laws (said f) (fields .0, (fields .1 .0, tt)) in
-        qed W ((‵ (flft κ q) ⊛ ‵ (flft κ₁ q₁) ⊛ ‵ ftrue) ∷ ‵ (owns (B (κ, (κ₁, tt)) ∷ MutSlice (named 1) κ₁ u8 ∷ []) (f, (o, tt)) at) ∷ []) ∵ enter ! C Λ code.function (mach ∷ w ∷ []) _ $
+        qed W ((‵ (flft κ q) ⊛ ‵ (flft κ₁ q₁) ⊛ ‵ ftrue) ∷ ‵ (owns (B (κ, (κ₁, tt)) ∷ MutSlice (named 1) κ₁ u8 ∷ []) (f, (o, tt)) at) ∷ []) ∵ enter !
+        C Λ code.function (mach ∷ w ∷ []) _ $
         alloc1 ! (λ l₀. alloc1 ! (λ l₁. alloc1 ! (λ l₂. alloc1 ! (λ l₃. alloc1 ! (λ l₄. alloc1 ! (λ l₅. alloc1 ! (λ l₆. alloc1 ! (λ l₇. alloc1 ! (λ l₈. alloc0 ! $ params1 ! $
         pass1 ! (init ! 14 refl (LL.lawful S L 𝓤 H A W .typed f _ is .0)) $ pass1 ! (init ! 12 refl (mut-slice-lawful 𝓤 H A W (named 1) κ₁ u8 .typed o (w ∷ []) p .0)) $ pass0 ! $
         -- [_8; …; _7; …; _6; …; _5; …; _4; …; _3; …; _2; …; _1; …; room for _0; …; the tokens; what the parameters own]
-        assigns ! (of-opd ! (load ! (from ! (fld ! refl (stop !))) (look-in ! 14 (sub ! 0 refl (whole !))))) (from ! (stop !)) (init ! 8 refl (EL.lawful D.the-type D′.the-laws 𝓤 H A W tt .typed (f .device) _ (fields .0) .0)) $
-        assigns ! (of-opd ! (load ! (from ! (fld ! refl (stop !))) (look-in ! 14 (sub ! 1 refl (whole !))))) (from ! (stop !)) (init ! 6 refl (EL.lawful E.the-type E′.the-laws 𝓤 H A W tt .typed (f .head) _ (fields .1 .0) .0)) $
-        assigns ! (agg ! (and-then ! (load ! (from ! (stop !)) (look ! 8 refl)) (and-then ! (load ! (from ! (stop !)) (look ! 6 refl)) (no-more !)))) (from ! (stop !)) (init ! 10 refl (LL.lawful F.the-type F′.the-laws 𝓤 H A W .typed (said f) _ said-is .0)) $
-        assigns ! (of-opd ! (load ! (from ! (fld ! refl (stop !))) (look-in ! 14 (sub ! 2 refl (whole !))))) (from ! (stop !)) (init ! 4 refl (shr-slice-lawful 𝓤 H A W erased κ u8 .typed (f .run) (v ∷ []) (fields .1 .1 .0) .0)) $
+        assigns ! (of-opd ! (load ! (from ! (fld ! refl (stop !))) (look-in ! 14 (sub ! 0 refl (whole !))))) (from ! (stop !))
+        (init ! 8 refl (EL.lawful D.the-type D′.the-laws 𝓤 H A W tt .typed (f .device) _ (fields .0) .0)) $
+        assigns ! (of-opd ! (load ! (from ! (fld ! refl (stop !))) (look-in ! 14 (sub ! 1 refl (whole !))))) (from ! (stop !))
+        (init ! 6 refl (EL.lawful E.the-type E′.the-laws 𝓤 H A W tt .typed (f .head) _ (fields .1 .0) .0)) $
+        assigns ! (agg ! (and-then ! (load ! (from ! (stop !)) (look ! 8 refl)) (and-then ! (load ! (from ! (stop !)) (look ! 6 refl)) (no-more !))))
+        (from ! (stop !)) (init ! 10 refl (LL.lawful F.the-type F′.the-laws 𝓤 H A W .typed (said f) _ said-is .0)) $
+        assigns ! (of-opd ! (load ! (from ! (fld ! refl (stop !))) (look-in ! 14 (sub ! 2 refl (whole !))))) (from ! (stop !))
+        (init ! 4 refl (shr-slice-lawful 𝓤 H A W erased κ u8 .typed (f .run) (v ∷ []) (fields .1 .1 .0) .0)) $
         assigns ! (addr ! (from ! (fld ! refl (hop ! (look-in ! 12 (sub ! 0 refl (whole !))) (stop !))))) (from ! (stop !)) (init ! 2 refl (tt, tt)) $
-        assigns ! (agg ! (and-then ! (load ! (from ! (stop !)) (look ! 2 refl)) (and-then ! (load ! (from ! (fld ! refl (stop !))) (look-in ! 12 (sub ! 1 refl (whole !)))) (no-more !)))) (from ! (stop !)) (init ! 0 refl (tt, (tt, (record { fits = p .0 .1 .0 }, tt)))) $
+        assigns !
+        (agg ! (and-then ! (load ! (from ! (stop !)) (look ! 2 refl)) (and-then ! (load ! (from ! (fld ! refl (stop !))) (look-in ! 12 (sub ! 1 refl (whole !)))) (no-more !))))
+        (from ! (stop !)) (init ! 0 refl (tt, (tt, (record { fits = p .0 .1 .0 }, tt)))) $
         move ! (19 ∷ []) $ fsplit ! $ use1 W (‵ Own ⊛ ‵ Own) (LL.copy S (T′.the-copy (namedLft 2 0 tt (κ, (κ₁, tt)))) 𝓤 H A W .twice f (mach ∷ [])) $ split ! $
-        use1 W (given (mach ∷ [] ≡ mach ∷ []) (‵ (all-own (S .parts) L vf))) (own-open 𝓤 H A W S L vf mach) $ learn ! (λ _. use1 W (‵ (ownAt (S .parts) L 2 (f .run)) ⊛ ‵ (rest (S .parts) L 2 vf)) (own-out 𝓤 H A W (S .parts) L 2 vf) $ split ! $ move ! (1 ∷ []) $ drop ! $
+        use1 W (given (mach ∷ [] ≡ mach ∷ []) (‵ (all-own (S .parts) L vf))) (own-open 𝓤 H A W S L vf mach) $ learn !
+        (λ _. use1 W (‵ (ownAt (S .parts) L 2 (f .run)) ⊛ ‵ (rest (S .parts) L 2 vf)) (own-out 𝓤 H A W (S .parts) L 2 vf) $ split ! $ move ! (1 ∷ []) $ drop ! $
         -- [what the run owns; what the struct owns; what the buffer owns; _8; …; the tokens]
-        move ! (2 ∷ []) $ fsplit ! $ fjoin ! $ move ! (1 ∷ 0 ∷ []) $ fjoin ! $ owned ! F.the-row (Is F.the-row) (LL.makes F.the-type F′.the-plain 𝓤 H A) (said f) _ said-is $ fjoin ! $
+        move ! (2 ∷ []) $ fsplit ! $ fjoin ! $ move ! (1 ∷ 0 ∷ []) $ fjoin ! $ owned ! F.the-row (Is F.the-row)
+        (LL.makes F.the-type F′.the-plain 𝓤 H A) (said f) _ said-is $ fjoin ! $
         move ! (20 ∷ 0 ∷ []) $ use2 W (raw (Write 𝓤 H A mem run .pre to)) asks $
         -- [what the call asks; what the struct owns; _8; …]
-        calls-at ! fm (Write 𝓤 H A mem run) known to (and-then ! (load ! (from ! (stop !)) (look ! 12 refl)) (and-then ! (load ! (from ! (stop !)) (look ! 6 refl)) (and-then ! (load ! (from ! (stop !)) (look ! 2 refl)) (no-more !)))) (λ u.
-        use1 W (later (some (λ (r : Count). ((‵ (flft κ q) ⊛ ‵ (flft κ₁ q₁) ⊛ ‵ ftrue) ⊛ ‵ (R.the-row .own r (u ∷ []))) ⊛ raw (ensured 𝓤 H A writer.ended (writer.clauses 𝓤 H A mem run) (κ, (κ₁, tt)) (said f, (f .run, (o, tt))) tt r)))) (id⊢ 𝓤 _) $ await ! tt $ pick ! (λ r.
-        split ! $ move ! (1 ∷ []) $ use1 W (some (λ (zs : Unit {0} × (Unit {0} × (List ℕ × Unit {0}))). ‵ (lasts writer.ended (κ, (κ₁, tt)) (said f, (f .run, (o, tt))) zs) ⊛ raw (fact 𝓤 (Said r (zs .1 .1 .0))))) (id⊢ 𝓤 _) $ pick ! (λ zs.
+        calls-at ! fm (Write 𝓤 H A mem run) known to
+        (and-then ! (load ! (from ! (stop !)) (look ! 12 refl))
+        (and-then ! (load ! (from ! (stop !)) (look ! 6 refl)) (and-then ! (load ! (from ! (stop !)) (look ! 2 refl)) (no-more !))))
+        (λ u.
+        use1 W
+        (later
+        (some (λ (r : Count). ((‵ (flft κ q) ⊛ ‵ (flft κ₁ q₁) ⊛ ‵ ftrue) ⊛ ‵ (R.the-row .own r (u ∷ []))) ⊛ raw
+        (ensured 𝓤 H A writer.ended (writer.clauses 𝓤 H A mem run) (κ, (κ₁, tt)) (said f, (f .run, (o, tt))) tt r))))
+        (id⊢ 𝓤 _) $ await ! tt $ pick ! (λ r.
+        split ! $ move ! (1 ∷ []) $ use1 W
+        (some (λ (zs : Unit {0} × (Unit {0} × (List ℕ × Unit {0}))). ‵ (lasts writer.ended (κ, (κ₁, tt)) (said f, (f .run, (o, tt))) zs) ⊛ raw (fact 𝓤 (Said r (zs .1 .1 .0)))))
+        (id⊢ 𝓤 _) $ pick ! (λ zs.
         split ! $ move ! (1 ∷ []) $ heard ! (Said r (zs .1 .1 .0)) (λ e. fsplit ! $ drop ! $ fsplit ! $ drop ! $ fsplit ! $ fsplit ! $ move ! (1 ∷ []) $ feqL ! (λ l.
         -- [the last list; …; the tokens and the result; what the struct owns; _8; …; room for _0; …]
         move ! (2 ∷ []) $ split ! $ move ! (1 ∷ []) $ peeks ! R.the-row (Is R.the-row) (shows 𝓤 H A R.the-row) r (u ∷ []) (λ counted.
         land ! (from ! (stop !)) (init ! 21 refl (EL.lawful R.the-type R′.the-laws 𝓤 H A W tt .typed r _ counted .0)) $
-        returns ! (look ! 21 refl) $ forget ! 5 refl $ forget ! 7 refl $ forget ! 9 refl $ forget ! 11 refl $ forget ! 13 refl $ forget ! 15 refl $ forget ! 17 refl $ forget ! 19 refl $ forget ! 21 refl $
-        move ! (21 ∷ 22 ∷ []) $ free1 ! $ move ! (19 ∷ 20 ∷ []) $ free1 ! $ move ! (17 ∷ 18 ∷ []) $ free1 ! $ move ! (15 ∷ 16 ∷ []) $ free1 ! $ move ! (13 ∷ 14 ∷ []) $ free1 ! $ move ! (11 ∷ 12 ∷ []) $ free1 ! $ move ! (9 ∷ 10 ∷ []) $ free1 ! $ move ! (7 ∷ 8 ∷ []) $ free1 ! $ move ! (5 ∷ 6 ∷ []) $ free1 ! $ free0 ! $
+        returns ! (look ! 21 refl) $ forget ! 5 refl $ forget ! 7 refl $ forget ! 9 refl $ forget ! 11 refl $ forget ! 13 refl $ forget ! 15 refl $
+        forget ! 17 refl $ forget ! 19 refl $ forget ! 21 refl $
+        move ! (21 ∷ 22 ∷ []) $ free1 ! $ move ! (19 ∷ 20 ∷ []) $ free1 ! $ move ! (17 ∷ 18 ∷ []) $ free1 ! $ move ! (15 ∷ 16 ∷ []) $ free1 ! $ move !
+        (13 ∷ 14 ∷ []) $ free1 ! $ move ! (11 ∷ 12 ∷ []) $ free1 ! $ move ! (9 ∷ 10 ∷ []) $ free1 ! $ move ! (7 ∷ 8 ∷ []) $ free1 ! $ move !
+        (5 ∷ 6 ∷ []) $ free1 ! $ free0 ! $
         keep ! (0 ∷ 1 ∷ 2 ∷ 4 ∷ []) $ by ! (exits r u (zs .1 .1 .0) e l)))))))))))))))))
 
 module _ {M : Type 1} (𝓤 : URA M) (H : Heap 𝓤) (A : Atoms 𝓤) (W : Given 𝓤 H A) (mem : Memory → SProp 𝓤) (run : Routine → Fun 𝓤) where

@@ -57,7 +57,8 @@ stayed = (stay-none (λ _. F.the-row) yes, (stay-none-slice (0 ∷ []) tt (plain
 abbrev val : m.Frame → Val
 val = LL.val F.the-type F′.the-laws
 
-module _ {M : Type 1} (𝓤 : URA M) (H : Heap 𝓤) (A : Atoms 𝓤) (W : Given 𝓤 H A) (mem : Memory → SProp 𝓤) (run : Routine → Fun 𝓤) (κ : Lft) (q : Share) (f : m.Frame) (s : RefT (List ℕ)) where
+module _ {M : Type 1} (𝓤 : URA M) (H : Heap 𝓤) (A : Atoms 𝓤) (W : Given 𝓤 H A) (mem : Memory → SProp 𝓤) (run : Routine → Fun 𝓤) (κ : Lft) (q : Share)
+    (f : m.Frame) (s : RefT (List ℕ)) where
   abbrev α : NamedLft
   α = namedLft 1 0 tt (κ, tt)
 
@@ -84,12 +85,15 @@ module _ {M : Type 1} (𝓤 : URA M) (H : Heap 𝓤) (A : Atoms 𝓤) (W : Given
   exits is =
       let fields = LL.owed F.the-type F′.the-laws f _ is in
       qed W ((‵ (flft κ q) ⊛ ‵ ftrue) ∷ ‵ (owns (F.the-row ∷ ShrSlice (named 0) κ u8 ∷ []) (f, (s, tt)) at) ∷ []) ∵
-      suffices ! _ (ends-at 𝓤 H A with-run.ended stayed (with-run.clauses 𝓤 H A mem run) W (((κ, tt), (q, tt), tt, (f, (s, tt)), at), tt) mach made (tt, (tt, tt)) (tt, (tt, tt))) $ says ! refl $
+      suffices ! _
+      (ends-at 𝓤 H A with-run.ended stayed (with-run.clauses 𝓤 H A mem run) W (((κ, tt), (q, tt), tt, (f, (s, tt)), at), tt) mach made (tt, (tt, tt)) (tt, (tt, tt)))
+      $ says ! refl $
       frame ! $ fsplit ! $ move ! (1 ∷ []) $ fsplit ! $ use1 W (‵ Own ⊛ ‵ Own) (shr-slice-copy 𝓤 H A W (named 0) κ u8 .twice s (v ∷ [])) $ split ! $
       -- [what the run owns, twice; true; what was said owns]
       move ! (0 ∷ 2 ∷ []) $ fjoin ! $ move ! (2 ∷ 0 ∷ []) $ fjoin ! $ frame ! $
       nothing ! $ move ! (1 ∷ 0 ∷ []) $ fjoin ! $ owned ! E.the-row (Is E.the-row) (EL.makes E.the-type E′.the-plain 𝓤 H A) (f .head) _ (fields .1 .0) $ fjoin ! $
-      owned ! D.the-row (Is D.the-row) (EL.makes D.the-type D′.the-plain 𝓤 H A) (f .device) _ (fields .0) $ fjoin ! $ by ! (own-shut 𝓤 H A W (T.the-type α) (T′.the-laws α) (f .device, (f .head, (s, tt))))
+      owned ! D.the-row (Is D.the-row) (EL.makes D.the-type D′.the-plain 𝓤 H A) (f .device) _ (fields .0) $ fjoin ! $ by !
+      (own-shut 𝓤 H A W (T.the-type α) (T′.the-laws α) (f .device, (f .head, (s, tt))))
 
   module _ (C : Calls 𝓤 H) (Λ : Loops 𝓤 H) where
     walk : Is F.the-row f (val f ∷ []) → Is (ShrSlice (named 0) κ u8) s (v ∷ [])
@@ -98,11 +102,18 @@ module _ {M : Type 1} (𝓤 : URA M) (H : Heap 𝓤) (A : Atoms 𝓤) (W : Given
         let fields = LL.owed F.the-type F′.the-laws f _ is in
         qed W (raw (onEntry 𝓤 H A with-run.signature (κ, tt) (q, tt) (f, (s, tt)) at) ∷ []) ∵ enter ! C Λ code.function (val f ∷ v ∷ []) _ $
         alloc1 ! (λ l₀. alloc1 ! (λ l₁. alloc1 ! (λ l₂. alloc0 ! $ params1 ! $
-        pass1 ! (init ! 2 refl (LL.lawful F.the-type F′.the-laws 𝓤 H A W .typed f _ is .0)) $ pass1 ! (init ! 0 refl (shr-slice-lawful 𝓤 H A W (named 0) κ u8 .typed s (v ∷ []) p .0)) $ pass0 ! $
+        pass1 ! (init ! 2 refl (LL.lawful F.the-type F′.the-laws 𝓤 H A W .typed f _ is .0)) $ pass1 !
+        (init ! 0 refl (shr-slice-lawful 𝓤 H A W (named 0) κ u8 .typed s (v ∷ []) p .0)) $ pass0 ! $
         -- [_2; …; _1; …; room for _0; …]
-        assigns ! (agg ! (and-then ! (load ! (from ! (fld ! refl (stop !))) (look-in ! 2 (sub ! 0 refl (whole !)))) (and-then ! (load ! (from ! (fld ! refl (stop !))) (look-in ! 2 (sub ! 1 refl (whole !)))) (and-then ! (load ! (from ! (stop !)) (look ! 0 refl)) (no-more !))))) (from ! (stop !))
+        assigns !
+        (agg !
+        (and-then ! (load ! (from ! (fld ! refl (stop !))) (look-in ! 2 (sub ! 0 refl (whole !)))) (and-then !
+        (load ! (from ! (fld ! refl (stop !))) (look-in ! 2 (sub ! 1 refl (whole !))))
+        (and-then ! (load ! (from ! (stop !)) (look ! 0 refl)) (no-more !)))))
+        (from ! (stop !))
         (init ! 4 refl (LL.lawful (T.the-type α) (T′.the-laws α) 𝓤 H A W .typed made _ (LL.owes (T.the-type α) (T′.the-laws α) made (fields .0, (fields .1 .0, (p, tt)))) .0)) $
-        returns ! (look ! 4 refl) $ forget ! 0 refl $ forget ! 2 refl $ forget ! 4 refl $ move ! (4 ∷ 5 ∷ []) $ free1 ! $ move ! (2 ∷ 3 ∷ []) $ free1 ! $ free1 ! $ free0 ! $ by ! (exits is))))
+        returns ! (look ! 4 refl) $ forget ! 0 refl $ forget ! 2 refl $ forget ! 4 refl $ move ! (4 ∷ 5 ∷ []) $ free1 ! $ move ! (2 ∷ 3 ∷ []) $ free1
+        ! $ free1 ! $ free0 ! $ by ! (exits is))))
 
 module _ {M : Type 1} (𝓤 : URA M) (H : Heap 𝓤) (A : Atoms 𝓤) (W : Given 𝓤 H A) (mem : Memory → SProp 𝓤) (run : Routine → Fun 𝓤) where
   with-run-walks : (C : Calls 𝓤 H) (Λ : Loops 𝓤 H) → Walks 𝓤 H A with-run.ended stayed (WpFn 𝓤 H C Λ code.function) (with-run.clauses 𝓤 H A mem run)

@@ -77,7 +77,8 @@ module _ {M : Type 1} (𝓤 : URA M) (H : Heap 𝓤) (A : Atoms 𝓤) (mem : Mem
   abbrev Encode : Contract 𝓤
   Encode = tripleOf 𝓤 H A encode.signature (encode.spec 𝓤 H A mem run)
 
-module _ {M : Type 1} (𝓤 : URA M) (H : Heap 𝓤) (A : Atoms 𝓤) (W : Given 𝓤 H A) (mem : Memory → SProp 𝓤) (run : Routine → Fun 𝓤) (κ κ₁ : Lft) (q q₁ : Share) (bounds : AllOutlive 2 (beside.signature .outlives) (κ, (κ₁, tt))) (f : m.Frame) (s o : RefT (List ℕ)) where
+module _ {M : Type 1} (𝓤 : URA M) (H : Heap 𝓤) (A : Atoms 𝓤) (W : Given 𝓤 H A) (mem : Memory → SProp 𝓤) (run : Routine → Fun 𝓤) (κ κ₁ : Lft)
+    (q q₁ : Share) (bounds : AllOutlive 2 (beside.signature .outlives) (κ, (κ₁, tt))) (f : m.Frame) (s o : RefT (List ℕ)) where
   -- the struct's type, and the same as a local of a body has it
   abbrev B : RattleType
   B = T.the-row (namedLft 1 0 tt (κ, tt))
@@ -119,7 +120,9 @@ module _ {M : Type 1} (𝓤 : URA M) (H : Heap 𝓤) (A : Atoms 𝓤) (W : Given
   to-encode u = (((κ, (κ₁, tt)), (q, (q₁, tt)), tt, (made, (o, tt)), (u ∷ [], (w ∷ [], tt))), tt)
 
   asks-encode : (u : Val) → ent 𝓤 (onEntry 𝓤 H A encode.signature (κ, (κ₁, tt)) (q, (q₁, tt)) (made, (o, tt)) (u ∷ [], (w ∷ [], tt))) (Encode 𝓤 H A mem run .pre (to-encode u))
-  asks-encode u = qed W ((‵ (flft κ q) ⊛ ‵ (flft κ₁ q₁) ⊛ ‵ ftrue) ∷ ‵ (owns (B ∷ MutSlice (named 1) κ₁ u8 ∷ []) (made, (o, tt)) (u ∷ [], (w ∷ [], tt))) ∷ []) ∵ join ! $ frame ! $ done !
+  asks-encode u = qed W
+      ((‵ (flft κ q) ⊛ ‵ (flft κ₁ q₁) ⊛ ‵ ftrue) ∷ ‵ (owns (B ∷ MutSlice (named 1) κ₁ u8 ∷ []) (made, (o, tt)) (u ∷ [], (w ∷ [], tt))) ∷ []) ∵ join !
+      $ frame ! $ done !
 
   abbrev Said : Count → List ℕ → Type 0
   Said r zs = Writes (frameWrite f (now s) (length (now o))) r (now o) zs
@@ -128,43 +131,65 @@ module _ {M : Type 1} (𝓤 : URA M) (H : Heap 𝓤) (A : Atoms 𝓤) (W : Given
       → ent 𝓤 (⋆ 𝓤 H A (‵ (R.the-row .own r (u ∷ [])) ∷ (‵ (flft κ q) ⊛ ‵ (flft κ₁ q₁) ⊛ ‵ ftrue) ∷ ‵ (finally u8 (o .name) zs) ∷ ‵ Own ∷ [])) (Post u)
   exits r u zs e l is =
       qed W (‵ (R.the-row .own r (u ∷ [])) ∷ (‵ (flft κ q) ⊛ ‵ (flft κ₁ q₁) ⊛ ‵ ftrue) ∷ ‵ (finally u8 (o .name) zs) ∷ ‵ Own ∷ []) ∵
-      suffices ! _ (ends-at 𝓤 H A beside.ended stayed (beside.clauses 𝓤 H A mem run) W (((κ, (κ₁, tt)), (q, (q₁, tt)), bounds, (f, (s, (o, tt))), at), tt) u r (tt, (tt, (zs, tt))) (tt, (tt, (l, tt)))) $ says ! e $
+      suffices ! _
+      (ends-at 𝓤 H A beside.ended stayed (beside.clauses 𝓤 H A mem run) W (((κ, (κ₁, tt)), (q, (q₁, tt)), bounds, (f, (s, (o, tt))), at), tt) u r
+      (tt, (tt, (zs, tt))) (tt, (tt, (l, tt))))
+      $ says ! e $
       move ! (1 ∷ []) $ frame ! $ nothing ! $ move ! (2 ∷ 0 ∷ []) $ fjoin ! $ move ! (2 ∷ 0 ∷ []) $ fjoin ! $
       owned ! F.the-row (Is F.the-row) (LL.makes F.the-type F′.the-plain 𝓤 H A) f _ is $ fjoin ! $ frame ! $ done !
 
-  module _ (C : Calls 𝓤 H) (Λ : Loops 𝓤 H) (fm : FmC 𝓤 H (W .laws) C) (known-with : Triple 𝓤 (C #with-run) (With 𝓤 H A mem run)) (known-encode : Triple 𝓤 (C #encode) (Encode 𝓤 H A mem run)) where
+  module _ (C : Calls 𝓤 H) (Λ : Loops 𝓤 H) (fm : FmC 𝓤 H (W .laws) C) (known-with : Triple 𝓤 (C #with-run) (With 𝓤 H A mem run))
+      (known-encode : Triple 𝓤 (C #encode) (Encode 𝓤 H A mem run)) where
     walk : Is F.the-row f (val f ∷ []) → Is (ShrSlice (named 0) κ u8) s (v ∷ []) → Is (MutSlice (named 1) κ₁ u8) o (w ∷ [])
         → ent 𝓤 (onEntry 𝓤 H A beside.signature (κ, (κ₁, tt)) (q, (q₁, tt)) (f, (s, (o, tt))) at) (WpFn 𝓤 H C Λ code.function (val f ∷ v ∷ w ∷ []) Post)
     walk said-is ps po =
-        qed W ((‵ (flft κ q) ⊛ ‵ (flft κ₁ q₁) ⊛ ‵ ftrue) ∷ ‵ (owns (F.the-row ∷ ShrSlice (named 0) κ u8 ∷ MutSlice (named 1) κ₁ u8 ∷ []) (f, (s, (o, tt))) at) ∷ []) ∵ enter ! C Λ code.function (val f ∷ v ∷ w ∷ []) _ $
+        qed W
+        ((‵ (flft κ q) ⊛ ‵ (flft κ₁ q₁) ⊛ ‵ ftrue) ∷ ‵ (owns (F.the-row ∷ ShrSlice (named 0) κ u8 ∷ MutSlice (named 1) κ₁ u8 ∷ []) (f, (s, (o, tt))) at) ∷ [])
+        ∵ enter ! C Λ code.function (val f ∷ v ∷ w ∷ []) _ $
         alloc1 ! (λ l₀. alloc1 ! (λ l₁. alloc1 ! (λ l₂. alloc1 ! (λ l₃. alloc1 ! (λ l₄. alloc1 ! (λ l₅. alloc1 ! (λ l₆. alloc0 ! $ params1 ! $
-        pass1 ! (init ! 10 refl (LL.lawful F.the-type F′.the-laws 𝓤 H A W .typed f _ said-is .0)) $ pass1 ! (init ! 8 refl (shr-slice-lawful 𝓤 H A W (named 0) κ u8 .typed s (v ∷ []) ps .0)) $
+        pass1 ! (init ! 10 refl (LL.lawful F.the-type F′.the-laws 𝓤 H A W .typed f _ said-is .0)) $ pass1 !
+        (init ! 8 refl (shr-slice-lawful 𝓤 H A W (named 0) κ u8 .typed s (v ∷ []) ps .0)) $
         pass1 ! (init ! 6 refl (mut-slice-lawful 𝓤 H A W (named 1) κ₁ u8 .typed o (w ∷ []) po .0)) $ pass0 ! $
         -- [_6; …; _5; …; _4; …; _3; …; _2; …; _1; …; room for _0; …; the tokens; what the parameters own]
         move ! (15 ∷ []) $ fsplit ! $ move ! (1 ∷ []) $ fsplit ! $ use1 W (‵ Own ⊛ ‵ Own) (shr-slice-copy 𝓤 H A W (named 0) κ u8 .twice s (v ∷ [])) $ split ! $
         nothing ! $ move ! (1 ∷ 0 ∷ []) $ fjoin ! $ move ! (3 ∷ 0 ∷ []) $ fjoin ! $ move ! (17 ∷ []) $ split ! $ nothing ! $ move ! (1 ∷ 0 ∷ []) $ join ! $
         -- [the run's token; the buffer's token; what the first call takes; what the run owns; what the buffer owns; _6; …]
         move ! (0 ∷ 2 ∷ []) $ use2 W (raw (With 𝓤 H A mem run .pre to-with)) asks-with $
-        calls-at ! fm (With 𝓤 H A mem run) known-with to-with (and-then ! (load ! (from ! (stop !)) (look ! 14 refl)) (and-then ! (load ! (from ! (stop !)) (look ! 12 refl)) (no-more !))) (λ u.
-        use1 W (later (some (λ (r : Frame). ((‵ (flft κ q) ⊛ ‵ ftrue) ⊛ ‵ (B .own r (u ∷ []))) ⊛ raw (ensured 𝓤 H A with-run.ended (with-run.clauses 𝓤 H A mem run) (κ, tt) (f, (s, tt)) tt r)))) (id⊢ 𝓤 _) $ await ! tt $ pick ! (λ r.
-        split ! $ move ! (1 ∷ []) $ use1 W (raw (fact 𝓤 (r ≡ made))) (with-said r) $ heard ! (r ≡ made) (λ e. split ! $ rewrite ! 1 (λ (h : Frame). ‵ (B .own h (u ∷ []))) e refl $ move ! (1 ∷ []) $
+        calls-at ! fm (With 𝓤 H A mem run) known-with to-with
+        (and-then ! (load ! (from ! (stop !)) (look ! 14 refl)) (and-then ! (load ! (from ! (stop !)) (look ! 12 refl)) (no-more !))) (λ u.
+        use1 W
+        (later
+        (some (λ (r : Frame). ((‵ (flft κ q) ⊛ ‵ ftrue) ⊛ ‵ (B .own r (u ∷ []))) ⊛ raw (ensured 𝓤 H A with-run.ended (with-run.clauses 𝓤 H A mem run) (κ, tt) (f, (s, tt)) tt r))))
+        (id⊢ 𝓤 _) $ await ! tt $ pick ! (λ r.
+        split ! $ move ! (1 ∷ []) $ use1 W (raw (fact 𝓤 (r ≡ made))) (with-said r) $ heard ! (r ≡ made)
+        (λ e. split ! $ rewrite ! 1 (λ (h : Frame). ‵ (B .own h (u ∷ []))) e refl $ move ! (1 ∷ []) $
         -- [what the struct owns; the run's token; the buffer's token; what the run owns; what the buffer owns; _6; …]
         peeks ! B (Is B) (shows 𝓤 H A B) made (u ∷ []) (λ is.
         land ! (from ! (stop !)) (init ! 9 refl (LL.lawful (T.the-type αᵉ) (T′.the-laws αᵉ) 𝓤 H A W .typed made _ is .0)) $
         assigns ! (addr ! (from ! (fld ! refl (hop ! (look-in ! 11 (sub ! 0 refl (whole !))) (stop !))))) (from ! (stop !)) (init ! 7 refl (tt, tt)) $
-        assigns ! (agg ! (and-then ! (load ! (from ! (stop !)) (look ! 7 refl)) (and-then ! (load ! (from ! (fld ! refl (stop !))) (look-in ! 11 (sub ! 1 refl (whole !)))) (no-more !)))) (from ! (stop !)) (init ! 5 refl (tt, (tt, (record { fits = po .0 .1 .0 }, tt)))) $
+        assigns !
+        (agg ! (and-then ! (load ! (from ! (stop !)) (look ! 7 refl)) (and-then ! (load ! (from ! (fld ! refl (stop !))) (look-in ! 11 (sub ! 1 refl (whole !)))) (no-more !))))
+        (from ! (stop !)) (init ! 5 refl (tt, (tt, (record { fits = po .0 .1 .0 }, tt)))) $
         move ! (0 ∷ 4 ∷ []) $ fjoin ! $ move ! (1 ∷ []) $ split ! $ move ! (1 ∷ []) $ drop ! $ move ! (0 ∷ 2 ∷ []) $ join ! $
         -- [the tokens; what the second call takes; what the run owns; _6; …]
         use2 W (raw (Encode 𝓤 H A mem run .pre (to-encode u))) (asks-encode u) $
-        calls-at ! fm (Encode 𝓤 H A mem run) known-encode (to-encode u) (and-then ! (load ! (from ! (stop !)) (look ! 6 refl)) (and-then ! (load ! (from ! (stop !)) (look ! 2 refl)) (no-more !))) (λ u′.
-        use1 W (later (some (λ (c : Count). ((‵ (flft κ q) ⊛ ‵ (flft κ₁ q₁) ⊛ ‵ ftrue) ⊛ ‵ (R.the-row .own c (u′ ∷ []))) ⊛ raw (ensured 𝓤 H A encode.ended (encode.clauses 𝓤 H A mem run) (κ, (κ₁, tt)) (made, (o, tt)) tt c)))) (id⊢ 𝓤 _) $ await ! tt $ pick ! (λ c.
-        split ! $ move ! (1 ∷ []) $ use1 W (some (λ (zs : Unit {0} × (List ℕ × Unit {0})). ‵ (lasts encode.ended (κ, (κ₁, tt)) (made, (o, tt)) zs) ⊛ raw (fact 𝓤 (Said c (zs .1 .0))))) (id⊢ 𝓤 _) $ pick ! (λ zs.
+        calls-at ! fm (Encode 𝓤 H A mem run) known-encode (to-encode u)
+        (and-then ! (load ! (from ! (stop !)) (look ! 6 refl)) (and-then ! (load ! (from ! (stop !)) (look ! 2 refl)) (no-more !))) (λ u′.
+        use1 W
+        (later
+        (some (λ (c : Count). ((‵ (flft κ q) ⊛ ‵ (flft κ₁ q₁) ⊛ ‵ ftrue) ⊛ ‵ (R.the-row .own c (u′ ∷ []))) ⊛ raw
+        (ensured 𝓤 H A encode.ended (encode.clauses 𝓤 H A mem run) (κ, (κ₁, tt)) (made, (o, tt)) tt c))))
+        (id⊢ 𝓤 _) $ await ! tt $ pick ! (λ c.
+        split ! $ move ! (1 ∷ []) $ use1 W
+        (some (λ (zs : Unit {0} × (List ℕ × Unit {0})). ‵ (lasts encode.ended (κ, (κ₁, tt)) (made, (o, tt)) zs) ⊛ raw (fact 𝓤 (Said c (zs .1 .0)))))
+        (id⊢ 𝓤 _) $ pick ! (λ zs.
         split ! $ move ! (1 ∷ []) $ heard ! (Said c (zs .1 .0)) (λ e′. fsplit ! $ drop ! $ fsplit ! $ fsplit ! $ move ! (1 ∷ []) $ feqL ! (λ l.
         -- [the last list; …; the tokens and the result; what the run owns; _6; …; room for _0; …]
         move ! (2 ∷ []) $ split ! $ move ! (1 ∷ []) $ peeks ! R.the-row (Is R.the-row) (shows 𝓤 H A R.the-row) c (u′ ∷ []) (λ counted.
         land ! (from ! (stop !)) (init ! 17 refl (EL.lawful R.the-type R′.the-laws 𝓤 H A W tt .typed c _ counted .0)) $
         returns ! (look ! 17 refl) $ forget ! 5 refl $ forget ! 7 refl $ forget ! 9 refl $ forget ! 11 refl $ forget ! 13 refl $ forget ! 15 refl $ forget ! 17 refl $
-        move ! (17 ∷ 18 ∷ []) $ free1 ! $ move ! (15 ∷ 16 ∷ []) $ free1 ! $ move ! (13 ∷ 14 ∷ []) $ free1 ! $ move ! (11 ∷ 12 ∷ []) $ free1 ! $ move ! (9 ∷ 10 ∷ []) $ free1 ! $ move ! (7 ∷ 8 ∷ []) $ free1 ! $ move ! (5 ∷ 6 ∷ []) $ free1 ! $ free0 ! $
+        move ! (17 ∷ 18 ∷ []) $ free1 ! $ move ! (15 ∷ 16 ∷ []) $ free1 ! $ move ! (13 ∷ 14 ∷ []) $ free1 ! $ move ! (11 ∷ 12 ∷ []) $ free1 ! $ move !
+        (9 ∷ 10 ∷ []) $ free1 ! $ move ! (7 ∷ 8 ∷ []) $ free1 ! $ move ! (5 ∷ 6 ∷ []) $ free1 ! $ free0 ! $
         keep ! (0 ∷ 1 ∷ 2 ∷ 4 ∷ []) $ by ! (exits c u′ (zs .1 .0) e′ l said-is))))))))))))))))))
 
 module _ {M : Type 1} (𝓤 : URA M) (H : Heap 𝓤) (A : Atoms 𝓤) (W : Given 𝓤 H A) (mem : Memory → SProp 𝓤) (run : Routine → Fun 𝓤) where
@@ -173,13 +198,17 @@ module _ {M : Type 1} (𝓤 : URA M) (H : Heap 𝓤) (A : Atoms 𝓤) (W : Given
   beside-walks C Λ fm known-with known-encode =
       walked 𝓤 H A beside.ended stayed (beside.clauses 𝓤 H A mem run) (WpFn 𝓤 H C Λ code.function) (λ κs. (LL.vals F.the-type F′.the-laws, (slice-vals, (slice-vals, tt))))
       (λ κs. (LL.tells F.the-type F′.the-laws, (shr-slice-tells (named 0) (κs .0) u8, (mut-slice-tells (named 1) (κs .1 .0) u8, tt))))
-      (λ κs qs bounds a g are. via 𝓤 _ (fst∗ 𝓤 _ (emp 𝓤)) (walk 𝓤 H A W mem run (κs .0) (κs .1 .0) (qs .0) (qs .1 .0) bounds (a .0) (a .1 .0) (a .1 .1 .0) C Λ fm known-with known-encode (are .0) (are .1 .0) (are .1 .1 .0)))
+      (λ κs qs bounds a g are. via 𝓤 _ (fst∗ 𝓤 _ (emp 𝓤))
+      (walk 𝓤 H A W mem run (κs .0) (κs .1 .0) (qs .0) (qs .1 .0) bounds (a .0) (a .1 .0) (a .1 .1 .0) C Λ fm known-with known-encode (are .0) (are .1 .0) (are .1 .1 .0)))
 
 beside-meets : {M : Type 1} (𝓤 : URA M) (H : Heap 𝓤) (A : Atoms 𝓤) → Given 𝓤 H A → (mem : Memory → SProp 𝓤) (run : Routine → Fun 𝓤) (𝓣 : Tables 𝓤 H)
     → Triple 𝓤 (𝓣 .C #with-run) (With 𝓤 H A mem run) → Triple 𝓤 (𝓣 .C #encode) (Encode 𝓤 H A mem run)
     → Meets 𝓤 H A beside.signature (WpFn 𝓤 H (𝓣 .C) (𝓣 .Λ) code.function) (beside.spec 𝓤 H A mem run)
 beside-meets 𝓤 H A W mem run 𝓣 known-with known-encode =
-    walk-meets 𝓤 H A beside.ended stayed W (goes-none 𝓤 H A W 2 (λ _. F.the-row) yes (λ κs x f. refl), (goes-none-slice 𝓤 H A W 2 (0 ∷ []) tt (plain (λ _. u8)) yes, (goes-gave-slice 𝓤 H A W 2 1 tt (plain (λ _. u8)), tt)))
+    walk-meets 𝓤 H A beside.ended stayed W (
+      goes-none 𝓤 H A W 2 (λ _. F.the-row) yes (λ κs x f. refl),
+      (goes-none-slice 𝓤 H A W 2 (0 ∷ []) tt (plain (λ _. u8)) yes, (goes-gave-slice 𝓤 H A W 2 1 tt (plain (λ _. u8)), tt)),
+    )
     (beside.clauses 𝓤 H A mem run) (WpFn 𝓤 H (𝓣 .C) (𝓣 .Λ) code.function) (WpFn-mono 𝓤 H (W .laws) 𝓣 code.function)
     (beside-walks 𝓤 H A W mem run (𝓣 .C) (𝓣 .Λ) (fmOf 𝓤 H (W .laws) 𝓣) known-with known-encode)
 

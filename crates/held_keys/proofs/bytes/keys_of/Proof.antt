@@ -47,10 +47,18 @@ loop-less : tie.Need-loop-less Inv-loop μ-loop
 loop-less c = omega arith
 
 loop-again : tie.Need-loop-again Inv-loop μ-loop
-loop-again c = let l = c .before .before .before .loop in
-    let b = c .before .before .before .before .before .args .bytes .now in
-    let small : ((i : ℕ) → getD b i 0 < 256) = λ i. omega (arith, c .before .before .before .before .shared-slice-known .given i) in
-    (omega arith, l .inv .1, channel-stored b small _ (l .keys) (l .channel) _ _ (l .inv .2) (omega (arith, l .inv .1, c .before .before .loop-test .taken)) (c .before .word-at .ensures) (c .word-at2 .ensures))
+loop-again c =
+    let a = c .before .before .before .before .before .args in
+    let shared-slice-known = c .before .before .before .before .shared-slice-known in
+    let loop-test = c .before .before .loop-test in
+    let l = c .before .before .before .loop in
+    let b = a .bytes .now in
+    let small : ((i : ℕ) → getD b i 0 < 256) = λ i. omega (arith, shared-slice-known .given i) in (
+      omega arith,
+      l .inv .1,
+      channel-stored b small _ (l .keys) (l .channel) _ _ (l .inv .2) (omega (arith, l .inv .1, loop-test .taken))
+          (c .before .word-at .ensures) (c .word-at2 .ensures),
+    )
 
 returns : tie.Need-returns Inv-loop μ-loop
 returns c = let l = c .before .loop in

@@ -46,9 +46,18 @@ loop-less : tie.Need-loop-less Inv-loop μ-loop
 loop-less c = omega arith
 
 loop-again : tie.Need-loop-again Inv-loop μ-loop
-loop-again c = let l = c .before .before .before .before .before .before .loop in
-    let k = c .before .before .before .before .before .before .before .before .args .t1 in
-    (omega arith, l .inv .1, omega (arith, c .before .before .put-word .kept .1 .0, l .inv .2), word-stored k _ (l .bytes) _ (l .i) (omega (arith, c .before .before .before .before .before .loop-test .taken)) (l .inv .1) (l .inv .2) (l .inv .3) (c .before .before .put-word .ensures))
+loop-again c =
+    let a = c .before .before .before .before .before .before .before .before .args in
+    let put-word = c .before .before .put-word in
+    let loop-test = c .before .before .before .before .before .loop-test in
+    let l = c .before .before .before .before .before .before .loop in
+    let k = a .t1 in (
+      omega arith,
+      l .inv .1,
+      omega (arith, put-word .kept .1 .0, l .inv .2),
+      word-stored k _ (l .bytes) _ (l .i) (omega (arith, loop-test .taken))
+          (l .inv .1) (l .inv .2) (l .inv .3) (put-word .ensures),
+    )
 
 same-length : tie.Need-same-length Inv-loop μ-loop
 same-length c = search needs

@@ -45,8 +45,14 @@ returns-3 : tie.Need-returns-3
 returns-3 c =
     let from-byte = c .before .before .before .from-byte in
     let b = c .before .before .before .before in
-    rw
-    (sym (b .before .before .before .before .is-framed .ensures) ∙ not-false _ (b .before .before .before .if1 .left), sym (b .before .before .is-reply .ensures) ∙ not-false _ (b .before .if2 .left), ← b .byte-at .ensures, ← from-byte .ensures, c .before .e .given .1)
+    rw (
+      sym (b .before .before .before .before .is-framed .ensures) ∙ not-false _ (b .before .before .before .if1 .left),
+      sym
+          (b .before .before .is-reply .ensures) ∙ not-false _ (b .before .if2 .left),
+      ← b .byte-at .ensures,
+      ← from-byte .ensures,
+      c .before .e .given .1,
+    )
 
 returns-4 : tie.Need-returns-4
 returns-4 c =
@@ -55,8 +61,18 @@ returns-4 c =
     let from-packed = c .before .before .from-packed in
     let byte-at2 = c .before .before .before .byte-at2 in
     let b = c .before .before .before .before .before .before .before .before in
-    rw
-    (sym (b .before .before .before .before .is-framed .ensures) ∙ not-false _ (b .before .before .before .if1 .left), sym (b .before .before .is-reply .ensures) ∙ not-false _ (b .before .if2 .left), ← b .byte-at .ensures, ← from-byte .ensures, device .given .1, from-packed .ensures, byte-at2 .ensures, c .before .byte-at3 .ensures, c .byte-at4 .ensures)
+    rw (
+      sym (b .before .before .before .before .is-framed .ensures) ∙ not-false _ (b .before .before .before .if1 .left),
+      sym
+          (b .before .before .is-reply .ensures) ∙ not-false _ (b .before .if2 .left),
+      ← b .byte-at .ensures,
+      ← from-byte .ensures,
+      device .given .1,
+      from-packed .ensures,
+      byte-at2 .ensures,
+      c .before .byte-at3 .ensures,
+      c .byte-at4 .ensures,
+    )
 
 pub parse-reply-spec : {M : Type 1} → statement M
 parse-reply-spec =

@@ -14,12 +14,15 @@ copy-words-requires c κs = search needs
 
 copy-rest-requires : tie.Need-copy-rest-requires
 copy-rest-requires c κs =
-    let pre-there = c .before .before .before .before .before .before .before .pre in
+    let asked = c .before .before .before .before .before .before .before .pre in
     let a = c .before .before .before .before .before .before .before .args in
     let from = a .from .now in
     let n = length from / 8 * 8 in
-    let w = c .before .before .before .copy-words in
-    (omega (arith, ap length (w .ensures) ∙ length-copied from (a .to .now) n (omega arith) pre-there, pre-there), ap (take n) (w .ensures) ∙ front-copied from (a .to .now) n (omega arith))
+    let w = c .before .before .before .copy-words in (
+      omega (arith, ap length (w .ensures) ∙ length-copied from (a .to .now) n (omega arith) asked, asked),
+      ap (take n) (w .ensures) ∙
+          front-copied from (a .to .now) n (omega arith),
+    )
 
 same-length : tie.Need-same-length
 same-length c = search needs

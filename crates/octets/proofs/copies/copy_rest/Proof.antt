@@ -42,11 +42,17 @@ loop-less c = omega arith
 
 loop-again : tie.Need-loop-again Inv-loop μ-loop
 loop-again c =
-    let pre-there = c .before .before .before .pre in
+    let asked = c .before .before .before .pre in
     let a = c .before .before .before .args in
     let l = c .before .before .loop in
-    let n = length (a .from .now) / 8 * 8 in
-    (omega arith, refl, refl, copied-more (a .from .now) (a .to .now) (l .to) (n + l .i) (n + (l .i + 1)) (omega arith) (omega arith) (pre-there .0) (l .inv .3), simp length-set (l .inv .4))
+    let n = length (a .from .now) / 8 * 8 in (
+      omega arith,
+      refl,
+      refl,
+      copied-more (a .from .now) (a .to .now) (l .to) (n + l .i) (n + (l .i + 1)) (omega arith) (omega arith) (asked .0)
+          (l .inv .3),
+      simp length-set (l .inv .4),
+    )
 
 same-length : tie.Need-same-length Inv-loop μ-loop
 same-length c = c .before .loop .inv .4

@@ -36,7 +36,7 @@ loop-again : tie.Need-loop-again Inv-loop μ-loop
 loop-again c =
     let shared-slice-known = c .before .before .before .before .before .before .before .before .shared-slice-known in
     let put-word = c .before .before .put-word in
-    let pre-there = c .before .before .before .before .before .before .before .before .before .pre in
+    let asked = c .before .before .before .before .before .before .before .before .before .pre in
     let a = (c .before .before .before .before .before .before .before .before .before .args) in
     let l = (c .before .before .before .before .before .before .loop) in
     let bytes : ((i : ℕ) → getD (a .from .now) i 0 < 256) = λ i. omega (arith, shared-slice-known .given i) in
@@ -44,7 +44,7 @@ loop-again c =
       omega arith,
       l .inv .1,
       put-word .ensures ∙ word-stored (a .from .now) (l .to) (l .w * 8) (l .w * 8) (w .result) bytes (w .ensures)
-          ∙ copied-eight (a .from .now) (a .to .now) (l .to) (l .w * 8) ((l .w + 1) * 8) (omega arith) (omega arith) pre-there (l .inv .2),
+          ∙ copied-eight (a .from .now) (a .to .now) (l .to) (l .w * 8) ((l .w + 1) * 8) (omega arith) (omega arith) asked (l .inv .2),
       (c .before .to) .given ∙ l .inv .3,
     )
 

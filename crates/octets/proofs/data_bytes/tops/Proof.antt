@@ -11,7 +11,8 @@ join-requires c κs = search needs
 returns : tie.Need-returns
 returns c = let a = c .before .args in
     rw (c .join .ensures)
-    (tops-left (a .a) (a .b) (a .c) (a .d) (a .e) (a .f) (a .g) (a .h) (omega arith) (omega arith) (omega arith) (omega arith) (omega arith) (omega arith) (omega arith) (omega arith))
+    (tops-left (a .a) (a .b) (a .c) (a .d) (a .e) (a .f) (a .g) (a .h) (omega arith) (omega arith) (omega arith) (omega arith) (omega arith)
+    (omega arith) (omega arith) (omega arith))
 
 pub tops-spec : {M : Type 1} → statement M
 tops-spec = tie.close (tie.spec join-requires returns)

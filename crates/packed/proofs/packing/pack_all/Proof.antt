@@ -29,16 +29,16 @@ same-length c = search needs
 
 returns : tie.Need-returns
 returns c =
-    let pre-there = c .before .before .before .before .before .before .before .before .before .before .before .pre in
+    let asked = c .before .before .before .before .before .before .before .before .before .before .before .pre in
     let if1 = c .before .before .before .before .if1 in
     let pack-last = c .before .before .pack-last in
     let a = c .before .before .before .before .before .before .before .before .before .before .before .args in
     let whole = length (a .raw .now) / 7 in
     let p = c .before .before .before .before .before .before .before .pack-groups in
-    let all : 8 * whole + 8 ≡ 8 * a .groups = omega (arith, pre-there, if1 .taken) in
+    let all : 8 * whole + 8 ≡ 8 * a .groups = omega (arith, asked, if1 .taken) in
     pack-last .ensures
     ∙ ap (λ (l : List ℕ). window l (8 * whole) (tab (groupByte (a .raw .now) (7 * whole)) 8)) (p .ensures)
-    ∙ packed-more (a .raw .now) (a .out .now) whole (omega (arith, pre-there, if1 .taken))
+    ∙ packed-more (a .raw .now) (a .out .now) whole (omega (arith, asked, if1 .taken))
     ∙ ap (λ (n : ℕ). window (a .out .now) 0 (tab (packedByte (a .raw .now)) n)) all
 
 same-length-2 : tie.Need-same-length-2

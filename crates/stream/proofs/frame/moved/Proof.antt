@@ -28,7 +28,17 @@ loop-holds c =
     let p = (c .before .before .before .before .before .before .before .pre) in
     let m = c .before .before .moved-words in
     moving-begins (m .result .at) (m .result .used) (m .result .left) (m .last .1 .1 .1 .0) (a .bytes .now)
-    (omega (arith, m .ensures .place, m .ensures .rest, most .ensures, p .0, p .1, moving-length (a .start) (a .from) (most .result) (a .store .now) (a .bytes .now) (omega (arith, most .ensures, p .0, p .1)) (omega (arith, most .ensures, p .2)) (m .result .at) (m .result .used) (m .result .left) (m .last .1 .1 .1 .0) (m .ensures)))
+    (omega (
+      arith,
+      m .ensures .place,
+      m .ensures .rest,
+      most .ensures,
+      p .0,
+      p .1,
+      moving-length (a .start) (a .from) (most .result) (a .store .now) (a
+          .bytes .now) (omega (arith, most .ensures, p .0, p .1)) (omega (arith, most .ensures, p .2)) (m .result .at) (m .result .used) (m .result .left)
+          (m .last .1 .1 .1 .0) (m .ensures),
+    ))
     (omega (arith, m .ensures .next, m .ensures .rest, most .ensures, p .2))
 
 shared-slice-read-byte : tie.Need-shared-slice-read-byte Inv-loop μ-loop
@@ -78,7 +88,8 @@ returns c =
     let room₁ : m .result .at + m .result .left ≤ length (m .last .1 .1 .1 .0) = omega (arith, m .ensures .place, m .ensures .rest, room, long) in
     let there₁ : m .result .used + m .result .left ≤ length (a .bytes .now) = omega (arith, m .ensures .next, m .ensures .rest, there) in
     moving-stops (a .start) (a .from) n store bytes room there (l .at) (l .used) (l .left) (l .store)
-    (moved-then (a .start) (a .from) n (m .result .at) (m .result .used) (m .result .left) (l .at) (l .used) (l .left) store (m .last .1 .1 .1 .0) (l .store) bytes room there (m .ensures) (l .inv))
+    (moved-then (a .start) (a .from) n (m .result .at) (m .result .used) (m .result .left) (l .at) (l .used) (l .left) store (m .last .1 .1 .1 .0)
+    (l .store) bytes room there (m .ensures) (l .inv))
     (p .1) (most .ensures) (loop-test .taken) ((c .if1) .taken)
 
 slice-write-store : tie.Need-slice-write-store Inv-loop μ-loop
@@ -97,8 +108,15 @@ slice-write-store c =
     let long = moving-length (a .start) (a .from) n store bytes room there (m .result .at) (m .result .used) (m .result .left) (m .last .1 .1 .1 .0) (m .ensures) in
     let room₁ : m .result .at + m .result .left ≤ length (m .last .1 .1 .1 .0) = omega (arith, m .ensures .place, m .ensures .rest, room, long) in
     let there₁ : m .result .used + m .result .left ≤ length (a .bytes .now) = omega (arith, m .ensures .next, m .ensures .rest, there) in
-    omega
-    (arith, loop-test .taken, l .inv .place, l .inv .rest, room₁, moving-length (m .result .at) (m .result .used) (m .result .left) (m .last .1 .1 .1 .0) bytes room₁ there₁ (l .at) (l .used) (l .left) (l .store) (l .inv))
+    omega (
+      arith,
+      loop-test .taken,
+      l .inv .place,
+      l .inv .rest,
+      room₁,
+      moving-length (m .result .at) (m .result .used) (m .result .left)
+          (m .last .1 .1 .1 .0) bytes room₁ there₁ (l .at) (l .used) (l .left) (l .store) (l .inv),
+    )
 
 add-at : tie.Need-add-at Inv-loop μ-loop
 add-at c = let a = c .before .before .before .before .before .before .before .before .before .before .before .args in
@@ -186,7 +204,8 @@ returns-2 c =
     let room₁ : m .result .at + m .result .left ≤ length (m .last .1 .1 .1 .0) = omega (arith, m .ensures .place, m .ensures .rest, room, long) in
     let there₁ : m .result .used + m .result .left ≤ length (a .bytes .now) = omega (arith, m .ensures .next, m .ensures .rest, there) in
     moving-ends (a .start) (a .from) n store bytes room there (l .at) (l .used) (l .left) (l .store)
-    (moved-then (a .start) (a .from) n (m .result .at) (m .result .used) (m .result .left) (l .at) (l .used) (l .left) store (m .last .1 .1 .1 .0) (l .store) bytes room there (m .ensures) (l .inv))
+    (moved-then (a .start) (a .from) n (m .result .at) (m .result .used) (m .result .left) (l .at) (l .used) (l .left) store (m .last .1 .1 .1 .0)
+    (l .store) bytes room there (m .ensures) (l .inv))
     (p .1) (most .ensures) (omega (arith, (c .loop-test) .left))
 
 pub moved-spec : {M : Type 1} → statement M

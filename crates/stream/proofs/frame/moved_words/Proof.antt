@@ -42,8 +42,15 @@ put-word-requires c κs =
     let a = c .before .before .before .before .before .before .before .args in
     let l = c .before .before .before .before .loop in
     let p = (c .before .before .before .before .before .before .before .pre) in
-    omega
-    (arith, loop-test .taken, l .inv .place, l .inv .rest, p .0, moving-length (a .start) (a .from) (a .most) (a .store .now) (a .bytes .now) (p .0) (p .1) (l .at) (l .used) (l .left) (l .store) (l .inv))
+    omega (
+      arith,
+      loop-test .taken,
+      l .inv .place,
+      l .inv .rest,
+      p .0,
+      moving-length (a .start) (a .from) (a .most) (a .store .now) (a .bytes .now) (p .0)
+          (p .1) (l .at) (l .used) (l .left) (l .store) (l .inv),
+    )
 
 add-at : tie.Need-add-at Inv-loop μ-loop
 add-at c = let a = c .before .before .before .before .before .before .before .before .before .before .args in
@@ -72,8 +79,10 @@ loop-again c =
     let small : (i : ℕ) → getD (a .bytes .now) i 0 < 256 = λ i. omega (arith, shared-slice-known .given i) in
     let w = (c .before .before .before .before .before .word-at) in
     subst (λ (x : List ℕ). MovedTo (a .start) (a .from) (a .most) (l .at + 8) (l .used + 8) (l .left - 8) (a .store .now) x (a .bytes .now)) (sym (put-word .ensures))
-    (moving-word (a .start) (a .from) (a .most) (a .store .now) (a .bytes .now) (p .0) (p .1) (l .at) (l .used) (l .left) (l .store) (l .inv) (loop-test .taken) (w .result) small (w .ensures)
-    (word-plain (a .start) (a .from) (a .most) (a .store .now) (a .bytes .now) (p .0) (p .1) (l .at) (l .used) (l .left) (l .store) (l .inv) (w .result) small (w .ensures) (no-tops (a .bytes .now) (l .used) (w .result) small (w .ensures) (if1 .left))))
+    (moving-word (a .start) (a .from) (a .most) (a .store .now) (a .bytes .now) (p .0) (p .1) (l .at) (l .used) (l .left) (l .store) (l .inv)
+    (loop-test .taken) (w .result) small (w .ensures)
+    (word-plain (a .start) (a .from) (a .most) (a .store .now) (a .bytes .now) (p .0) (p .1) (l .at) (l .used) (l .left) (l .store) (l .inv)
+    (w .result) small (w .ensures) (no-tops (a .bytes .now) (l .used) (w .result) small (w .ensures) (if1 .left))))
 
 same-length-2 : tie.Need-same-length-2 Inv-loop μ-loop
 same-length-2 c = let a = c .before .before .before .before .args in

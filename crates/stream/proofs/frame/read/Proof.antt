@@ -87,8 +87,14 @@ ends-requires c κs =
     let w = further (a .from) (walk (openState (a .start) (a .state .now)) (a .store .now) (drop (a .from) (a .bytes .now))) in
     let b = run-moved w (a .state .now) (a .store .now) (a .bytes .now) (l .state) (l .store) (l .at) (l .used) (l .inv) (m .result .at)
     (m .result .used) (m .last .1 .1 .0) (m .ensures) in
-    let more : m .result .used < length (a .bytes .now) = omega (arith, if1 .left, b .on .within) in
-    (b .free, b .room, b .fits, if2 .taken, no-room-there w (a .state .now) (a .store .now) (a .bytes .now) (l .state) (l .store) (l .at) (l .used) (l .inv) (m .result .at) (m .result .used) (m .last .1 .1 .0) (m .ensures) more)
+    let more : m .result .used < length (a .bytes .now) = omega (arith, if1 .left, b .on .within) in (
+      b .free,
+      b .room,
+      b .fits,
+      if2 .taken,
+      no-room-there w (a .state .now) (a .store .now) (a .bytes .now) (l .state) (l .store) (l .at) (l .used)
+          (l .inv) (m .result .at) (m .result .used) (m .last .1 .1 .0) (m .ensures) more,
+    )
 
 same-length-3 : tie.Need-same-length-3 Inv-loop μ-loop
 same-length-3 c = search needs
@@ -145,7 +151,8 @@ returns-3 c =
     (m .result .used) (m .last .1 .1 .0) (m .ensures) in
     let more : m .result .used < length (a .bytes .now) = omega (arith, if1 .left, b .on .within) in
     frame-answers w (a .state .now) (a .store .now) (a .bytes .now) (l .state) (m .last .1 .1 .0) (m .result .at) (m .result .used) b more _ _ _
-    (realtime-answers (openState (m .result .at) (l .state)) (m .last .1 .1 .0) _ (m .result .used + 1) _ _ _ (omega (arith, shared-slice-known2 .given (m .result .used))) (sym (is-realtime .ensures) ∙ if3 .taken) ((c .realtime) .ensures)
+    (realtime-answers (openState (m .result .at) (l .state)) (m .last .1 .1 .0) _ (m .result .used + 1) _ _ _
+    (omega (arith, shared-slice-known2 .given (m .result .used))) (sym (is-realtime .ensures) ∙ if3 .taken) ((c .realtime) .ensures)
     (put-open2 .ensures ∙ open-stored (l .state) (b .free) (m .result .at) (b .fits)) refl)
 
 loop-less : tie.Need-loop-less Inv-loop μ-loop

@@ -38,14 +38,14 @@ loop-again : tie.Need-loop-again Inv-loop μ-loop
 loop-again c =
     let loop = c .before .before .before .loop in
     let shared-slice-known = c .before .before .before .before .shared-slice-known in
-    let pre-there = c .before .before .before .before .before .pre in
+    let asked = c .before .before .before .before .before .pre in
     let loop-test = c .before .before .loop-test in
     let a = c .before .before .before .before .before .args in
     let i = loop .i in
     let w = c .before .word-at in
     let small : (k : ℕ) → getD (a .bytes .now) k 0 < 256 = λ k. omega (arith, shared-slice-known .given k) in
     let plain = no-tops (a .bytes .now) i (w .result) small (w .ensures) (c .if1 .left) in
-    skip-word (a .at) i (a .bytes .now) pre-there (loop .inv) (omega (arith, loop-test .taken)) plain
+    skip-word (a .at) i (a .bytes .now) asked (loop .inv) (omega (arith, loop-test .taken)) plain
 
 returns-2 : tie.Need-returns-2 Inv-loop μ-loop
 returns-2 c = c .before .loop .inv

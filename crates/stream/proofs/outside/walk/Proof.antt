@@ -22,8 +22,8 @@ abbrev μ-loop : tie.MeasureT-loop
 
 loop-holds : tie.Need-loop-holds Inv-loop μ-loop
 loop-holds c =
-    let pre-there = c .before .before .before .pre in
-    let a = c .before .before .before .args in walk-begins (a .entry) (a .waiting) (a .«data») (a .state .now) (a .store .now) (a .bytes .now) pre-there
+    let asked = c .before .before .before .pre in
+    let a = c .before .before .before .args in walk-begins (a .entry) (a .waiting) (a .«data») (a .state .now) (a .store .now) (a .bytes .now) asked
 
 put-waiting-requires : tie.Need-put-waiting-requires Inv-loop μ-loop
 put-waiting-requires c κs = (c .before .before .before .loop) .inv .long
@@ -100,7 +100,8 @@ returns-2 c =
     let byte = getD (a .bytes .now) (l .i) 0 in
     let e = ends-two .ensures in
     outside-answers w (a .state .now) (a .store .now) (a .bytes .now) (l .state) (l .store) (l .at) (l .middle) (l .first) (l .i) (l .inv) (loop-test .taken) more _ _ _ refl
-    (second-ends (l .state) (h .free) (l .middle) (l .first) byte (l .i + 1) (h .numbers) _ _ (l .store) (if2 .taken) (if3 .left) (if4 .taken) _ (status-back (l .middle) (if4 .taken)) (e .0) (e .1))
+    (second-ends (l .state) (h .free) (l .middle) (l .first) byte (l .i + 1) (h .numbers) _ _ (l .store) (if2 .taken) (if3 .left) (if4 .taken) _
+    (status-back (l .middle) (if4 .taken)) (e .0) (e .1))
 
 status-in-requires : tie.Need-status-in-requires Inv-loop μ-loop
 status-in-requires c κs = search needs
@@ -180,6 +181,7 @@ same-length-8 c = search needs
 
 returns-4 : tie.Need-returns-4 Inv-loop μ-loop
 returns-4 c =
+    let before = c .before .before .before .before .before .before .before .before .before .before .before .before .before .before .before .before .before in
     let if1 = c .before .before .before .before .before .before .before .before .before .before .before .before .before .before .if1 in
     let loop-test = c .before .before .before .before .before .before .before .before .before .before .before .before .before .before .before .loop-test in
     let if3 = c .before .before .before .before .before .before .before .before .before .before .before .if3 in
@@ -191,7 +193,8 @@ returns-4 c =
     let ends-two2 = c .before .before .ends-two2 in
     let if6 = c .before .before .before .before .before .before .if6 in
     let if7 = c .before .before .before .before .if7 in
-    let a = c .before .before .before .before .before .before .before .before .before .before .before .before .before .before .before .before .before .before .before .before .args in
+    let a = before
+    .before .before .before .args in
     let l = c .before .before .before .before .before .before .before .before .before .before .before .before .before .before .before .before .loop in
     let w = walk (stateOf (a .state .now)) (a .store .now) (a .bytes .now) in
     let more : l .i < length (a .bytes .now) = omega (arith, if1 .left, l .inv .within) in
@@ -204,7 +207,8 @@ returns-4 c =
     (loop-test .taken) more (l .middle + 16_777_216) byte leads in
     outside-answers w (a .state .now) (a .store .now) (a .bytes .now) (l .state) (l .store) (l .at) (l .middle + 16_777_216) byte (l .i + 1) on
     (loop-test .taken) (if6 .taken) _ _ _ refl
-    (second-ends (l .state) (h .free) (l .middle + 16_777_216) byte (getD (a .bytes .now) (l .i + 1) 0) (l .i + 1 + 1) (leads .outside) _ _ (l .store) (if7 .taken) (λ z. omega (arith, z)) (omega arith) _ (sym (status-stays (l .middle))) (e .0) (e .1))
+    (second-ends (l .state) (h .free) (l .middle + 16_777_216) byte (getD (a .bytes .now) (l .i + 1) 0) (l .i + 1 + 1) (leads .outside) _ _ (l .store)
+    (if7 .taken) (λ z. omega (arith, z)) (omega arith) _ (sym (status-stays (l .middle))) (e .0) (e .1))
 
 add-middle : tie.Need-add-middle Inv-loop μ-loop
 add-middle c = omega (arith, (c .before .before .before .before .if4) .left)
@@ -253,7 +257,10 @@ loop-again-3 c =
     let more : l .i < length (a .bytes .now) = omega (arith, if1 .left, l .inv .within) in
     let h = l .inv .outside (loop-test .taken) in
     subst (λ (m : ℕ). Reached w (a .state .now) (a .store .now) (a .bytes .now) (l .state) (l .store) (l .at) m (l .first) (l .i + 1)) (sym ((c .held) .ensures))
-    (leads-on w (a .state .now) (a .store .now) (a .bytes .now) (l .state) (l .store) (l .at) (l .middle) (l .first) (l .i) (l .inv) (loop-test .taken) more _ _ (held-leads (l .middle) (l .first) (getD (l .state) 13 0) (getD (a .bytes .now) (l .i) 0) (l .store) (h .numbers) (if2 .left) (omega (arith, (c .before .if8) .taken)) (λ e. omega (arith, e, (c .before .if8) .taken))))
+    (leads-on w (a .state .now) (a .store .now) (a .bytes .now) (l .state) (l .store) (l .at) (l .middle) (l .first) (l .i) (l .inv)
+    (loop-test .taken) more _ _
+    (held-leads (l .middle) (l .first) (getD (l .state) 13 0) (getD (a .bytes .now) (l .i) 0) (l .store) (h .numbers) (if2 .left) (omega
+    (arith, (c .before .if8) .taken)) (λ e. omega (arith, e, (c .before .if8) .taken))))
 
 is-realtime-requires : tie.Need-is-realtime-requires Inv-loop μ-loop
 is-realtime-requires c κs = search needs
@@ -332,7 +339,9 @@ loop-again-5 c =
     let more : l .i < length (a .bytes .now) = omega (arith, if1 .left, l .inv .within) in
     let h = l .inv .outside (loop-test .taken) in
     subst (λ (m : ℕ). Reached w (a .state .now) (a .store .now) (a .bytes .now) (l .state) (l .store) (l .at) m (l .first) (l .i + 1)) (sym ((c .held2) .ensures))
-    (leads-on w (a .state .now) (a .store .now) (a .bytes .now) (l .state) (l .store) (l .at) (l .middle) (l .first) (l .i) (l .inv) (loop-test .taken) more _ _ (held-leads (l .middle) (l .first) (getD (l .state) 13 0) (getD (a .bytes .now) (l .i) 0) (l .store) (h .numbers) (if2 .left) ((c .before .if11) .taken) (if10 .left)))
+    (leads-on w (a .state .now) (a .store .now) (a .bytes .now) (l .state) (l .store) (l .at) (l .middle) (l .first) (l .i) (l .inv)
+    (loop-test .taken) more _ _
+    (held-leads (l .middle) (l .first) (getD (l .state) 13 0) (getD (a .bytes .now) (l .i) 0) (l .store) (h .numbers) (if2 .left) ((c .before .if11) .taken) (if10 .left)))
 
 put-waiting-requires-4 : tie.Need-put-waiting-requires-4 Inv-loop μ-loop
 put-waiting-requires-4 c κs = (c .before .before .before .before .before .before .before .before .before .before .before .before .loop) .inv .long
@@ -352,7 +361,8 @@ returns-6 c =
     let loop-test = c .before .before .before .before .before .before .before .before .before .before .before .before .before .before .before .loop-test in
     let if13 = c .before .before .before .before .before .if13 in
     let put-waiting4 = c .before .before .before .put-waiting4 in
-    let a = c .before .before .before .before .before .before .before .before .before .before .before .before .before .before .before .before .before .before .before .before .args in
+    let a = c .before .before .before .before .before .before .before .before .before .before .before .before .before .before .before .before .before
+    .before .before .before .args in
     let l = c .before .before .before .before .before .before .before .before .before .before .before .before .before .before .before .before .loop in
     let w = walk (stateOf (a .state .now)) (a .store .now) (a .bytes .now) in
     let more : l .i < length (a .bytes .now) = omega (arith, if1 .left, l .inv .within) in

@@ -29,8 +29,17 @@ returns-7 : tie.Need-returns-7
 returns-7 c = rw (c .before .match .keys7, c .bend .ensures)
 
 returns-8 : tie.Need-returns-8
-returns-8 c = rw
-    (ne-eqb _ 0x8 (c .match .rest .0 .0 .0 .0 .0 .0 .1), ne-eqb _ 0x9 (c .match .rest .0 .0 .0 .0 .0 .1), ne-eqb _ 0xA (c .match .rest .0 .0 .0 .0 .1), ne-eqb _ 0xB (c .match .rest .0 .0 .0 .1), ne-eqb _ 0xC (c .match .rest .0 .0 .1), ne-eqb _ 0xD (c .match .rest .0 .1), ne-eqb _ 0xE (c .match .rest .1))
+returns-8 c = rw (
+  ne-eqb _ 0x8 (c .match .rest .0 .0 .0 .0 .0 .0 .1),
+  ne-eqb _ 0x9 (c .match .rest .0 .0 .0 .0 .0 .1),
+  ne-eqb _ 0xA
+      (c .match .rest .0 .0 .0 .0 .1),
+  ne-eqb _ 0xB (c .match .rest .0 .0 .0 .1),
+  ne-eqb _ 0xC (c .match .rest .0 .0 .1),
+  ne-eqb _ 0xD
+      (c .match .rest .0 .1),
+  ne-eqb _ 0xE (c .match .rest .1),
+)
 
 pub from-bytes-spec : {M : Type 1} → statement M
 from-bytes-spec =

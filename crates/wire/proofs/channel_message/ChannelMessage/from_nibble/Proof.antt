@@ -29,8 +29,17 @@ returns-7 : tie.Need-returns-7
 returns-7 c = rw (c .match .keys7)
 
 returns-8 : tie.Need-returns-8
-returns-8 c = rw
-    (ne-eqb _ 0x80 (c .match .rest .0 .0 .0 .0 .0 .0 .1), ne-eqb _ 0x90 (c .match .rest .0 .0 .0 .0 .0 .1), ne-eqb _ 0xA0 (c .match .rest .0 .0 .0 .0 .1), ne-eqb _ 0xB0 (c .match .rest .0 .0 .0 .1), ne-eqb _ 0xC0 (c .match .rest .0 .0 .1), ne-eqb _ 0xD0 (c .match .rest .0 .1), ne-eqb _ 0xE0 (c .match .rest .1))
+returns-8 c = rw (
+  ne-eqb _ 0x80 (c .match .rest .0 .0 .0 .0 .0 .0 .1),
+  ne-eqb _ 0x90 (c .match .rest .0 .0 .0 .0 .0 .1),
+  ne-eqb _ 0xA0
+      (c .match .rest .0 .0 .0 .0 .1),
+  ne-eqb _ 0xB0 (c .match .rest .0 .0 .0 .1),
+  ne-eqb _ 0xC0 (c .match .rest .0 .0 .1),
+  ne-eqb _ 0xD0
+      (c .match .rest .0 .1),
+  ne-eqb _ 0xE0 (c .match .rest .1),
+)
 
 pub from-nibble-spec : {M : Type 1} → statement M
 from-nibble-spec =

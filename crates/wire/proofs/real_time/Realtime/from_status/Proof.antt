@@ -22,8 +22,14 @@ returns-6 : tie.Need-returns-6
 returns-6 c = rw (c .match .keys6)
 
 returns-7 : tie.Need-returns-7
-returns-7 c = rw
-    (ne-eqb _ 0xF8 (c .match .rest .0 .0 .0 .0 .0 .1), ne-eqb _ 0xFA (c .match .rest .0 .0 .0 .0 .1), ne-eqb _ 0xFB (c .match .rest .0 .0 .0 .1), ne-eqb _ 0xFC (c .match .rest .0 .0 .1), ne-eqb _ 0xFE (c .match .rest .0 .1), ne-eqb _ 0xFF (c .match .rest .1))
+returns-7 c = rw (
+  ne-eqb _ 0xF8 (c .match .rest .0 .0 .0 .0 .0 .1),
+  ne-eqb _ 0xFA (c .match .rest .0 .0 .0 .0 .1),
+  ne-eqb _ 0xFB (c .match .rest .0 .0 .0 .1),
+  ne-eqb _ 0xFC (c .match .rest .0 .0 .1),
+  ne-eqb _ 0xFE (c .match .rest .0 .1),
+  ne-eqb _ 0xFF (c .match .rest .1),
+)
 
 pub from-status-spec : {M : Type 1} → statement M
 from-status-spec =
