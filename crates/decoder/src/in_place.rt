@@ -4,6 +4,7 @@ ghost use Rattle.decoder.specs.State.{reset};
 ghost use Rattle.decoder.specs.Call.{call};
 ghost use Rattle.decoder.specs.InPlace.{FeedsInPlace};
 use crate::Decoder;
+use crate::by_value::Next;
 use crate::by_value::TakeAnswer;
 
 // Takes bytes until the first that reports, and leaves the state for the next call behind the reference. Refuses 20.
@@ -13,6 +14,15 @@ pub fn feed(state: &mut Decoder, store: &mut [u8], bytes: &[u8]) -> TakeAnswer
     let next = crate::by_value::feed_by_value(*state, store, bytes);
     *state = next.state;
     next.answer
+}
+
+// The call in place on a state that the caller holds by value: the state is lent from a local, and handed back beside the answer.
+pub fn feed_held(held: Decoder, store: &mut [u8], bytes: &[u8]) -> Next
+    ensures { λ r. ⌜ FeedsInPlace (call held (now (store .entry)) (now (bytes .entry))) (r .answer) held (r .state) (now (store .entry)) (now (store .exit)) ⌝ }
+{
+    let mut state = held;
+    let answer = feed(&mut state, store, bytes);
+    Next { state, answer }
 }
 
 // Forgets the open frame, the status and pending data. Takes any state.

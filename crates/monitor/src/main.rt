@@ -1,10 +1,10 @@
 // Shows MIDI bytes, a line for each report: the place of the byte that gave it, the message's bytes, and what they say. The bytes come from
 // standard input or from a file, in pieces. What goes wrong is said on standard error: a program of this kit has no exit status of its own.
 use decoder::Decoder;
-use decoder::Fed;
-use decoder::FeedAnswer;
 use decoder::MaybeReport;
 use decoder::Report;
+use decoder::by_value::TakeAnswer;
+use decoder::by_value::Taken;
 use libc::STDERR_FILENO;
 use libc::STDIN_FILENO;
 use libc::STDOUT_FILENO;
@@ -37,9 +37,9 @@ fn show_unless(quiet: bool, place: u64, store: &[u8], report: Report) {
 }
 
 // The reports of one call.
-fn show_all(quiet: bool, place: u64, store: &[u8], fed: Fed) {
-    let own = fed.report;
-    if fed.interrupted {
+fn show_all(quiet: bool, place: u64, store: &[u8], taken: Taken) {
+    let own = taken.report;
+    if taken.interrupted {
         show(place, store, Report::SysExInterrupted);
     }
     match own {
@@ -56,29 +56,30 @@ fn call(seen: Seen, store: &mut [u8], bytes: &[u8], quiet: bool) -> Seen {
     if bytes.len() < place {
         return seen;
     }
-    match state.feed(store, &bytes[place..]) {
-        FeedAnswer::Err(_) => seen,
-        FeedAnswer::Ok(fed) => {
-            let used = fed.used;
+    let next = decoder::in_place::feed_held(state, store, &bytes[place..]);
+    let after = next.state;
+    let answer = next.answer;
+    match answer {
+        TakeAnswer::Err(_) => seen,
+        TakeAnswer::Ok(taken) => {
+            let used = taken.used;
             if used == 0 {
                 return seen;
             }
             if bytes.len() - place < used {
                 return seen;
             }
-            let after = fed.state;
             let last = place + (used - 1);
-            let next = place + used;
             show_all(
                 quiet,
                 std::num::wrapping_add_u64(before, last as u64),
                 store,
-                fed,
+                taken,
             );
             Seen {
                 state: after,
                 before,
-                place: next,
+                place: place + used,
             }
         }
     }
