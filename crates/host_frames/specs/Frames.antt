@@ -1,6 +1,6 @@
 -- Frames at the boundary: every field a plain number, the run by its place in the caller's bytes.
 use mathlib.Core.List.{List}
-use Prim.Native.Nat.{ℕ}
+use Prim.Native.Nat.{ℕ, _≤_, _<_}
 use lib.ListN.{length, getD}
 use Rattle.refusal.specs.Outcome.{Outcome, gives, refused}
 use Rattle.ids.specs.declared.device.DeviceId.{DeviceId}
@@ -65,3 +65,19 @@ readAnswer (refused n values) bytes =
       «run_start» = 0;
       «run_len» = 0;
     }
+
+-- numbers that dm_frame_write can be handed as bytes: flags are 0 or 1, and every other number is below 80
+pub record ToldBytes (a : ReadAnswer) : Type 0 where
+  pub everyone : a .everyone ≤ 1
+  pub unit : a .unit < 0x80
+  pub command : a .command < 0x80
+  pub free : a .free < 0x80
+  pub version : a .version < 0x80
+  pub bank : a .bank < 0x80
+  pub program : a .program < 0x80
+  pub last : a .last < 0x80
+  pub pattern : a .pattern < 0x80
+  pub flag-there : a .«has_pattern» ≤ 1
+  pub interface : a .interface < 0x80
+  pub rx : a .rx < 0x80
+  pub tx : a .tx < 0x80
