@@ -11,9 +11,9 @@ use Rattle.refusal.specs.declared.Refusal.the-variants as e
 use Rattle.decoder.specs.declared.Decoder.{Decoder}
 use Rattle.decoder.specs.State.{limit, sound, fresh, reset}
 use Rattle.decoder.specs.Call.{Walked, walk, ready, call, fedOf, storeOf}
-use Rattle.decoder.specs.declared.by_value.TakeAnswer.{TakeAnswer}
-use Rattle.decoder.specs.declared.by_value.TakeAnswer.the-variants as a
-use Rattle.decoder.specs.InPlace.{takenOf, nextState, takenTold, FeedsInPlace}
+use Rattle.decoder_in_place.specs.declared.by_value.TakeAnswer.{TakeAnswer}
+use Rattle.decoder_in_place.specs.declared.by_value.TakeAnswer.the-variants as a
+use Rattle.decoder_in_place.specs.InPlace.{takenOf, nextState, takenTold, FeedsInPlace}
 use Rattle.damage.specs.Caller.{Call, CallLog, Made, Exactly}
 use Rattle.damage.specs.Condition3.{Condition3}
 use Rattle.damage.specs.Promises.{Promises}

@@ -5,9 +5,9 @@ use Rattle.refusal.specs.Outcome.{Outcome, gives, refused}
 use Rattle.decoder.specs.declared.Decoder.{Decoder}
 use Rattle.decoder.specs.Call.{call}
 use Rattle.decoder.specs.Reports.{reportList, toldAll}
-use Rattle.decoder.specs.declared.by_value.Taken.{Taken}
-use Rattle.decoder.specs.declared.by_value.TakeAnswer.{TakeAnswer}
-use Rattle.decoder.specs.InPlace.{takenTold, FeedsInPlace}
+use Rattle.decoder_in_place.specs.declared.by_value.Taken.{Taken}
+use Rattle.decoder_in_place.specs.declared.by_value.TakeAnswer.{TakeAnswer}
+use Rattle.decoder_in_place.specs.InPlace.{takenTold, FeedsInPlace}
 use Rattle.damage.specs.Reported.{Reported}
 use Rattle.damage.specs.Caller.{Caller, soleCaller}
 
@@ -21,7 +21,7 @@ abbrev pub takenReports : Outcome Taken → List ℕ → List Reported
 takenReports (gives t) store = toldAll store (reportList (t .interrupted) (t .report))
 takenReports (refused n values) store = []
 
--- the caller of `decoder::in_place::feed`, by its contract: the state is what stands behind the reference
+-- the caller of `decoder_in_place::feed`, by its contract: the state is what stands behind the reference
 abbrev pub inPlace : Caller
 inPlace =
     soleCaller

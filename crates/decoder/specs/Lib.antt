@@ -2,4 +2,3 @@ pub mod State
 pub mod Step
 pub mod Call
 pub mod Reports
-pub mod InPlace

@@ -9,9 +9,7 @@ ghost use Rattle.decoder.specs.State.{limit, noStatus, waitsSoundly, sou
 ghost use Rattle.decoder.specs.Step.{step, stored, opened, holding, longer, waiting, completed, collect};
 ghost use Rattle.decoder.specs.Call.{walk, Walks, call, Feeds};
 
-pub mod by_value;
 mod byte;
-pub mod in_place;
 
 use refusal::Refusal;
 use wire::Channel;

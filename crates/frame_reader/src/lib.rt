@@ -8,7 +8,6 @@ ghost use Rattle.message.specs.Head.{frameTold};
 ghost use Rattle.frame_reader.specs.Reader.{readHeader, readRecord, recordTold, readLocated, locatedTold, placeIn, parsed, RunLent};
 
 pub mod payload;
-pub mod view;
 
 use command::Command;
 use command::CommandAnswer;

@@ -7,9 +7,6 @@ ghost use Rattle.laws.specs.Choice.{pick};
 ghost use Rattle.message.specs.Prefix.{carriesRun};
 ghost use Rattle.refusal.specs.Outcome.{Writes, counted};
 ghost use Rattle.frame_writer.specs.Writer.{lengthFor, headLength, header, row, frameWrite, recordWrite, fieldsWrite, sevenBitWrite};
-
-pub mod view;
-
 use command::Command;
 use command::CommandAnswer;
 use framing::MaybeByte;

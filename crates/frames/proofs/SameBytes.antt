@@ -10,7 +10,7 @@ use Rattle.refusal.specs.Outcome.{Outcome, gives, refused, andThen, counted, co
 use Rattle.message.specs.declared.head.Frame.{Frame}
 use Rattle.frame_reader.specs.Reader.{parsed, runOf}
 use Rattle.frame_writer.specs.Writer.{frameWrite}
-use Rattle.frames.specs.Again.{writtenAgain}
+use Rattle.frame_view.specs.Again.{writtenAgain}
 use Rattle.frames.proofs.Heads.{frame-written-again}
 
 -- an accepted frame, with room for it, is written as itself

@@ -1,3 +1,2 @@
 pub mod Lengths
 pub mod Table
-pub mod Again

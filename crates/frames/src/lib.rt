@@ -1,2 +1,1 @@
-// Theorems about frames as they are read and written; its one call writes again what it reads.
-pub mod again;
+// Theorems about frames as they are read and written; no code of its own.

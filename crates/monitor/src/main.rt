@@ -3,8 +3,8 @@
 use decoder::Decoder;
 use decoder::MaybeReport;
 use decoder::Report;
-use decoder::by_value::TakeAnswer;
-use decoder::by_value::Taken;
+use decoder_in_place::by_value::TakeAnswer;
+use decoder_in_place::by_value::Taken;
 use libc::STDERR_FILENO;
 use libc::STDIN_FILENO;
 use libc::STDOUT_FILENO;
@@ -56,7 +56,7 @@ fn call(seen: Seen, store: &mut [u8], bytes: &[u8], quiet: bool) -> Seen {
     if bytes.len() < place {
         return seen;
     }
-    let next = decoder::in_place::feed_held(state, store, &bytes[place..]);
+    let next = decoder_in_place::feed_held(state, store, &bytes[place..]);
     let after = next.state;
     let answer = next.answer;
     match answer {
