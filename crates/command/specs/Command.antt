@@ -8,8 +8,6 @@ use Rattle.command.specs.declared.Command.{Command}
 use Rattle.command.specs.declared.Command.the-variants as k
 use Rattle.command.specs.declared.CommandAnswer.{CommandAnswer}
 use Rattle.command.specs.declared.CommandAnswer.the-variants as a
-use Rattle.command.specs.declared.Direction.{Direction}
-use Rattle.command.specs.declared.Direction.the-variants as d
 
 -- each command's code
 abbrev pub codeOf : Command → ℕ
@@ -54,53 +52,3 @@ commandOf b = among commands b
 abbrev pub commandTold : CommandAnswer → Outcome Command
 commandTold (a.Ok k) = gives k
 commandTold (a.Err e) = refusal e
-
--- which way a message travels: the dumps and the answer to a control application come from the synthesizer (the Rust's command)
-abbrev pub directionOf : Command → Direction
-directionOf k.ControlAppNotifyRequest = d.ToDevice
-directionOf k.ProgramDumpRequest = d.ToDevice
-directionOf k.ProgramDumpResponse = d.FromDevice
-directionOf k.EditBufferDumpRequest = d.ToDevice
-directionOf k.EditBufferDumpResponse = d.FromDevice
-directionOf k.GlobalParameterDumpRequest = d.ToDevice
-directionOf k.GlobalParameterDumpResponse = d.FromDevice
-directionOf k.SingleUserPatternDumpRequest = d.ToDevice
-directionOf k.UserPatternDumpResponse = d.FromDevice
-directionOf k.ProgramBankDumpRequest = d.ToDevice
-directionOf k.BankProgramNamesDumpRequest = d.ToDevice
-directionOf k.BankProgramNamesDumpResponse = d.FromDevice
-directionOf k.SingleProgramNameDumpRequest = d.ToDevice
-directionOf k.SingleProgramNameDumpResponse = d.FromDevice
-directionOf k.EditBufferPatternDumpRequest = d.ToDevice
-directionOf k.ControlAppNotifyResponse = d.FromDevice
-directionOf k.CalibrationDataDumpRequest = d.ToDevice
-directionOf k.CalibrationDataDumpResponse = d.FromDevice
-directionOf k.ChordMemoryDumpRequest = d.ToDevice
-directionOf k.ChordMemoryDumpResponse = d.FromDevice
-directionOf k.PolyChordMemoryDumpRequest = d.ToDevice
-directionOf k.PolyChordMemoryDumpResponse = d.FromDevice
-
--- the place of a command in the list above, counted from 0
-abbrev pub placeOf : Command → ℕ
-placeOf k.ControlAppNotifyRequest = 0
-placeOf k.ProgramDumpRequest = 1
-placeOf k.ProgramDumpResponse = 2
-placeOf k.EditBufferDumpRequest = 3
-placeOf k.EditBufferDumpResponse = 4
-placeOf k.GlobalParameterDumpRequest = 5
-placeOf k.GlobalParameterDumpResponse = 6
-placeOf k.SingleUserPatternDumpRequest = 7
-placeOf k.UserPatternDumpResponse = 8
-placeOf k.ProgramBankDumpRequest = 9
-placeOf k.BankProgramNamesDumpRequest = 10
-placeOf k.BankProgramNamesDumpResponse = 11
-placeOf k.SingleProgramNameDumpRequest = 12
-placeOf k.SingleProgramNameDumpResponse = 13
-placeOf k.EditBufferPatternDumpRequest = 14
-placeOf k.ControlAppNotifyResponse = 15
-placeOf k.CalibrationDataDumpRequest = 16
-placeOf k.CalibrationDataDumpResponse = 17
-placeOf k.ChordMemoryDumpRequest = 18
-placeOf k.ChordMemoryDumpResponse = 19
-placeOf k.PolyChordMemoryDumpRequest = 20
-placeOf k.PolyChordMemoryDumpResponse = 21

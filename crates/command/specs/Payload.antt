@@ -1,10 +1,15 @@
 -- The payloads of document 01: "Twenty-two codes with their payloads (v version, b bank, p program, run packed)".
+use mathlib.Core.Bool.{Bool, true, false, _||_}
 use mathlib.Core.List.{List, [], _∷_, map}
 use Prim.Native.Nat.{ℕ}
+use lib.Dec.{eqb}
 use lib.ListN.{length}
+use Rattle.laws.specs.Choice.{pick}
 use Rattle.ids.specs.Version.{programDataLength}
 use Rattle.command.specs.declared.Command.{Command}
 use Rattle.command.specs.declared.Command.the-variants as k
+use Rattle.command.specs.declared.Direction.{Direction}
+use Rattle.command.specs.declared.Direction.the-variants as d
 use Rattle.command.specs.declared.Row.{Row}
 use Rattle.command.specs.Command.{codeOf, commands}
 
@@ -77,6 +82,17 @@ payloadOf k.ChordMemoryDumpResponse = record { fields = version ∷ []; run = fi
 payloadOf k.PolyChordMemoryDumpRequest = record { fields = []; run = none }
 -- 1E
 payloadOf k.PolyChordMemoryDumpResponse = record { fields = version ∷ []; run = fixed 512 }
+
+-- does a payload end with a run?
+abbrev pub isRun : Run → Bool
+isRun none = false
+isRun programData = true
+isRun (fixed n) = true
+isRun any = true
+
+-- which way a message travels: the dumps and the answer to a control application (10) come from the synthesizer (the Rust's command)
+abbrev pub directionOf : Command → Direction
+directionOf k = pick (isRun (payloadOf k .run) || eqb (codeOf k) 0x10) d.FromDevice d.ToDevice
 
 -- the raw length that a run names for a version: "program, edit" 245 or 242; 0 where none is named
 abbrev pub runLength : Run → ℕ → ℕ

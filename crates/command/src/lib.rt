@@ -1,7 +1,8 @@
 // The 22 commands of a frame, and the table of their payloads.
 ghost use mathlib.Core.Path.{_≡_};
-ghost use Rattle.command.specs.Command.{codeOf, commandOf, commandTold, directionOf, placeOf};
-ghost use Rattle.command.specs.Payload.{rowOf, rawLengthFor};
+ghost use Rattle.command.specs.Command.{codeOf, commandOf, commandTold};
+ghost use Rattle.command.specs.Payload.{directionOf, isRun, payloadOf, rowOf, rawLengthFor};
+ghost use Rattle.command.specs.quick.Place.{placeOf};
 use ids::ProtocolVersion;
 use refusal::Refusal;
 
@@ -273,32 +274,35 @@ impl Command {
         }
     }
 
+    // The dumps and the answer to a control application come from the synthesizer.
     pub fn direction(self) -> Direction
         ensures { λ r. ⌜ r ≡ directionOf self ⌝ }
     {
+        if self.carries_run() {
+            return Direction::FromDevice;
+        }
+        let row = self.row();
+        if row.code == 0x10 {
+            return Direction::FromDevice;
+        }
+        Direction::ToDevice
+    }
+
+    // Does a message of this command end with a packed run?
+    pub fn carries_run(self) -> bool
+        ensures { λ r. ⌜ r ≡ isRun (payloadOf self .run) ⌝ }
+    {
         match self {
-            Command::ControlAppNotifyRequest => Direction::ToDevice,
-            Command::ProgramDumpRequest => Direction::ToDevice,
-            Command::ProgramDumpResponse => Direction::FromDevice,
-            Command::EditBufferDumpRequest => Direction::ToDevice,
-            Command::EditBufferDumpResponse => Direction::FromDevice,
-            Command::GlobalParameterDumpRequest => Direction::ToDevice,
-            Command::GlobalParameterDumpResponse => Direction::FromDevice,
-            Command::SingleUserPatternDumpRequest => Direction::ToDevice,
-            Command::UserPatternDumpResponse => Direction::FromDevice,
-            Command::ProgramBankDumpRequest => Direction::ToDevice,
-            Command::BankProgramNamesDumpRequest => Direction::ToDevice,
-            Command::BankProgramNamesDumpResponse => Direction::FromDevice,
-            Command::SingleProgramNameDumpRequest => Direction::ToDevice,
-            Command::SingleProgramNameDumpResponse => Direction::FromDevice,
-            Command::EditBufferPatternDumpRequest => Direction::ToDevice,
-            Command::ControlAppNotifyResponse => Direction::FromDevice,
-            Command::CalibrationDataDumpRequest => Direction::ToDevice,
-            Command::CalibrationDataDumpResponse => Direction::FromDevice,
-            Command::ChordMemoryDumpRequest => Direction::ToDevice,
-            Command::ChordMemoryDumpResponse => Direction::FromDevice,
-            Command::PolyChordMemoryDumpRequest => Direction::ToDevice,
-            Command::PolyChordMemoryDumpResponse => Direction::FromDevice,
+            Command::ProgramDumpResponse
+            | Command::EditBufferDumpResponse
+            | Command::GlobalParameterDumpResponse
+            | Command::UserPatternDumpResponse
+            | Command::BankProgramNamesDumpResponse
+            | Command::SingleProgramNameDumpResponse
+            | Command::CalibrationDataDumpResponse
+            | Command::ChordMemoryDumpResponse
+            | Command::PolyChordMemoryDumpResponse => true,
+            _ => false,
         }
     }
 

@@ -1,3 +1,4 @@
 pub mod Fields
 pub mod Head
 pub mod Prefix
+pub mod quick

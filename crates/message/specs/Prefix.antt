@@ -1,26 +1,18 @@
 -- A payload's bytes ahead of its run, in wire order, from document 01's list of payloads: what each byte says, and its range.
-use mathlib.Core.Path.{_≡_}
 use mathlib.Core.Bool.{Bool, true, false, _&&_, _||_}
 use mathlib.Core.List.{List, [], _∷_, _++_}
-use Prim.Native.Nat.{ℕ, suc, _-_}
+use Prim.Native.Nat.{ℕ, suc}
 use lib.Dec.{ltb, eqb}
-use lib.ListN.{length, getD, replicate}
+use lib.ListN.{getD}
 use Rattle.laws.specs.Choice.{pick}
 use Rattle.refusal.specs.Outcome.{Outcome, gives, refusal, unless}
 use Rattle.command.specs.declared.Command.{Command}
 use Rattle.command.specs.Command.{codeOf}
 use Rattle.command.specs.Payload as y
-use Rattle.command.specs.Payload.{Field, Run, payloadOf}
+use Rattle.command.specs.Payload.{Field, payloadOf, isRun}
 use Rattle.message.specs.declared.fields.Fields.{Fields}
 use Rattle.message.specs.declared.prefix.FieldsAnswer.{FieldsAnswer}
 use Rattle.message.specs.declared.prefix.FieldsAnswer.the-variants as fa
-
--- does a payload end with a run?
-abbrev pub isRun : Run → Bool
-isRun y.none = false
-isRun y.programData = true
-isRun (y.fixed n) = true
-isRun y.any = true
 
 -- does a command's message carry a run? The table says so by the word "run"
 abbrev pub carriesRun : Command → Bool
@@ -90,11 +82,6 @@ wire first (y.interface ∷ gs) f = f .interface ∷ wire first gs f
 abbrev pub prefixOf : Command → Fields → List ℕ
 prefixOf k f = wire true (fieldList k (f .«has_pattern»)) f
 
--- a prefix as the code keeps it: its length, and five bytes that begin with it and end with zeros
-pub record Padded (bytes : List ℕ) (len : ℕ) (kept : List ℕ) : Type 0 where
-  pub long : len ≡ length bytes
-  pub is : kept ≡ bytes ++ replicate (5 - length bytes) 0
-
 -- the range of each field
 abbrev pub fieldFits : Field → ℕ → Bool
 fieldFits y.free b = true
@@ -135,15 +122,6 @@ allFit (f ∷ fs) p i = fieldFits f (getD p i 0) && allFit fs p (suc i)
 abbrev pub checkedFields : Command → Fields → Outcome Fields
 checkedFields k f =
     checked (fieldList k (f .«has_pattern»)) (prefixOf k f) 0 (gives (fieldsAt k (f .«has_pattern») (prefixOf k f)))
-
--- the same tests for fields whose lacking ones are 0, the version tested before
-abbrev pub smallChecked : Fields → Outcome Fields
-smallChecked f =
-    unless (ltb (f .interface) 3) 12 (f .interface ∷ [])
-    (unless (ltb (f .bank) 8) 9 (f .bank ∷ [])
-    (unless (ltb (f .program) 128) 10 (f .program ∷ [])
-    (unless (ltb (f .last) 128) 10 (f .last ∷ [])
-    (unless (ltb (f .pattern) 32) 11 (f .pattern ∷ []) (gives f)))))
 
 -- the code's answer in document 01's terms
 abbrev pub fieldsTold : FieldsAnswer → Outcome Fields

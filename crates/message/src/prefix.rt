@@ -1,7 +1,8 @@
 // The payload bytes ahead of a run: to fields, from fields, and their ranges.
 ghost use mathlib.Core.Path.{_≡_};
 ghost use mathlib.Core.List.{[], _∷_};
-ghost use Rattle.message.specs.Prefix.{carriesRun, fieldsAt, prefixOf, Padded, smallChecked, checkedFields, fieldsTold};
+ghost use Rattle.message.specs.Prefix.{carriesRun, fieldsAt, prefixOf, checkedFields, fieldsTold};
+ghost use Rattle.message.specs.quick.Prefix.{Padded, smallChecked};
 use crate::fields::Fields;
 use crate::fields::dump_fields;
 use crate::fields::free_fields;
@@ -31,30 +32,7 @@ pub struct Prefix {
 pub fn carries_run(command: Command) -> bool
     ensures { λ r. ⌜ r ≡ carriesRun command ⌝ }
 {
-    match command {
-        Command::ControlAppNotifyRequest => false,
-        Command::ProgramDumpRequest => false,
-        Command::ProgramDumpResponse => true,
-        Command::EditBufferDumpRequest => false,
-        Command::EditBufferDumpResponse => true,
-        Command::GlobalParameterDumpRequest => false,
-        Command::GlobalParameterDumpResponse => true,
-        Command::SingleUserPatternDumpRequest => false,
-        Command::UserPatternDumpResponse => true,
-        Command::ProgramBankDumpRequest => false,
-        Command::BankProgramNamesDumpRequest => false,
-        Command::BankProgramNamesDumpResponse => true,
-        Command::SingleProgramNameDumpRequest => false,
-        Command::SingleProgramNameDumpResponse => true,
-        Command::EditBufferPatternDumpRequest => false,
-        Command::ControlAppNotifyResponse => false,
-        Command::CalibrationDataDumpRequest => false,
-        Command::CalibrationDataDumpResponse => true,
-        Command::ChordMemoryDumpRequest => false,
-        Command::ChordMemoryDumpResponse => true,
-        Command::PolyChordMemoryDumpRequest => false,
-        Command::PolyChordMemoryDumpResponse => true,
-    }
+    command.carries_run()
 }
 
 // The fields of a payload by the first five of its bytes, with a pattern's number or without.

@@ -21,7 +21,8 @@ use Rattle.command.specs.Payload.{Run, payloadOf, runLength, rawLengthFor}
 use Rattle.command.proofs.Table.{same-code, of-every}
 use Rattle.packed.specs.Packed.{unpackedLength, unpackedLengthOf, packedLength}
 use Rattle.packed.proofs.Lengths.{unpacked-given}
-use Rattle.message.specs.Prefix.{carriesRun, optional, fieldsAt, fieldOk, smallChecked}
+use Rattle.message.specs.Prefix.{carriesRun, optional, fieldsAt, fieldOk}
+use Rattle.message.specs.quick.Prefix.{smallChecked}
 use Rattle.message.proofs.prefix.ByKind.{checked-by-kind, version-first}
 use Rattle.frame_reader.specs.Payload.{accepted, numberedBy, prefixLength, early, whenLength, readFields, isAny, versionIn, readRun}
 

@@ -24,7 +24,8 @@ use Rattle.command.specs.Payload.{Field}
 use Rattle.command.proofs.Table.{of-every}
 use Rattle.message.specs.declared.fields.Fields.{Fields}
 use Rattle.message.specs.Fields.{patternFields}
-use Rattle.message.specs.Prefix.{tag, valueOf, secondOf, optional, fieldList, fieldsIn, fieldsAt, carriesRun, checked, fieldOk, smallChecked, wire, prefixOf, Padded, checkedFields}
+use Rattle.message.specs.Prefix.{tag, valueOf, secondOf, optional, fieldList, fieldsIn, fieldsAt, carriesRun, checked, fieldOk, wire, prefixOf, checkedFields}
+use Rattle.message.specs.quick.Prefix.{smallChecked, Padded}
 
 -- fields are read by their bytes alone: two payloads that agree in the first n bytes give the same
 value-same : (f : Field) (l : List Field) (p q : List ℕ) (i n : ℕ) → i + length l ≤ n → ((j : ℕ) → j < n → getD p j 0 ≡ getD q j 0)

@@ -3,99 +3,57 @@ use borrow.Author.Tests.{ne-eqb}
 use Rattle.command.proofs.Command.from_byte.Statement.{statement}
 use Rattle.command.proofs.Command.from_byte.Tie as tie
 
-returns : tie.Need-returns
-returns c = rw (c .match .keys1)
-
-returns-2 : tie.Need-returns-2
-returns-2 c = rw (c .match .keys2)
-
-returns-3 : tie.Need-returns-3
-returns-3 c = rw (c .match .keys3)
-
-returns-4 : tie.Need-returns-4
-returns-4 c = rw (c .match .keys4)
-
-returns-5 : tie.Need-returns-5
-returns-5 c = rw (c .match .keys5)
-
-returns-6 : tie.Need-returns-6
-returns-6 c = rw (c .match .keys6)
-
-returns-7 : tie.Need-returns-7
-returns-7 c = rw (c .match .keys7)
-
-returns-8 : tie.Need-returns-8
-returns-8 c = rw (c .match .keys8)
-
-returns-9 : tie.Need-returns-9
-returns-9 c = rw (c .match .keys9)
-
-returns-10 : tie.Need-returns-10
-returns-10 c = rw (c .match .keys10)
-
-returns-11 : tie.Need-returns-11
-returns-11 c = rw (c .match .keys11)
-
-returns-12 : tie.Need-returns-12
-returns-12 c = rw (c .match .keys12)
-
-returns-13 : tie.Need-returns-13
-returns-13 c = rw (c .match .keys13)
-
-returns-14 : tie.Need-returns-14
-returns-14 c = rw (c .match .keys14)
-
-returns-15 : tie.Need-returns-15
-returns-15 c = rw (c .match .keys15)
-
-returns-16 : tie.Need-returns-16
-returns-16 c = rw (c .match .keys16)
-
-returns-17 : tie.Need-returns-17
-returns-17 c = rw (c .match .keys17)
-
-returns-18 : tie.Need-returns-18
-returns-18 c = rw (c .match .keys18)
-
-returns-19 : tie.Need-returns-19
-returns-19 c = rw (c .match .keys19)
-
-returns-20 : tie.Need-returns-20
-returns-20 c = rw (c .match .keys20)
-
-returns-21 : tie.Need-returns-21
-returns-21 c = rw (c .match .keys21)
-
-returns-22 : tie.Need-returns-22
-returns-22 c = rw (c .match .keys22)
-
 returns-23 : tie.Need-returns-23
-returns-23 c = rw (ne-eqb _ 0x00 (c .match .rest .0 .0 .0 .0 .0 .0 .0 .0 .0 .0 .0 .0 .0 .0 .0 .0 .0 .0 .0 .0 .0 .1), ne-eqb _ 0x01 (c .match .rest .0 .0 .0 .0 .0 .0 .0 .0 .0 .0 .0 .0 .0 .0 .0 .0 .0 .0 .0 .0 .1), ne-eqb _ 0x02 (c .match .rest .0 .0 .0 .0 .0 .0 .0 .0 .0 .0 .0 .0 .0 .0 .0 .0 .0 .0 .0 .1), ne-eqb _ 0x03 (c .match .rest .0 .0 .0 .0 .0 .0 .0 .0 .0 .0 .0 .0 .0 .0 .0 .0 .0 .0 .1), ne-eqb _ 0x04 (c .match .rest .0 .0 .0 .0 .0 .0 .0 .0 .0 .0 .0 .0 .0 .0 .0 .0 .0 .1), ne-eqb _ 0x05 (c .match .rest .0 .0 .0 .0 .0 .0 .0 .0 .0 .0 .0 .0 .0 .0 .0 .0 .1), ne-eqb _ 0x06 (c .match .rest .0 .0 .0 .0 .0 .0 .0 .0 .0 .0 .0 .0 .0 .0 .0 .1), ne-eqb _ 0x07 (c .match .rest .0 .0 .0 .0 .0 .0 .0 .0 .0 .0 .0 .0 .0 .0 .1), ne-eqb _ 0x08 (c .match .rest .0 .0 .0 .0 .0 .0 .0 .0 .0 .0 .0 .0 .0 .1), ne-eqb _ 0x09 (c .match .rest .0 .0 .0 .0 .0 .0 .0 .0 .0 .0 .0 .0 .1), ne-eqb _ 0x0A (c .match .rest .0 .0 .0 .0 .0 .0 .0 .0 .0 .0 .0 .1), ne-eqb _ 0x0B (c .match .rest .0 .0 .0 .0 .0 .0 .0 .0 .0 .0 .1), ne-eqb _ 0x0C (c .match .rest .0 .0 .0 .0 .0 .0 .0 .0 .0 .1), ne-eqb _ 0x0D (c .match .rest .0 .0 .0 .0 .0 .0 .0 .0 .1), ne-eqb _ 0x0E (c .match .rest .0 .0 .0 .0 .0 .0 .0 .1), ne-eqb _ 0x10 (c .match .rest .0 .0 .0 .0 .0 .0 .1), ne-eqb _ 0x11 (c .match .rest .0 .0 .0 .0 .0 .1), ne-eqb _ 0x12 (c .match .rest .0 .0 .0 .0 .1), ne-eqb _ 0x1B (c .match .rest .0 .0 .0 .1), ne-eqb _ 0x1C (c .match .rest .0 .0 .1), ne-eqb _ 0x1D (c .match .rest .0 .1), ne-eqb _ 0x1E (c .match .rest .1))
+returns-23 c = let r = c .match .rest in
+    rw (
+      ne-eqb _ 0x00 (r .0 .0 .0 .0 .0 .0 .0 .0 .0 .0 .0 .0 .0 .0 .0 .0 .0 .0 .0 .0 .0 .1),
+      ne-eqb _ 0x01 (r .0 .0 .0 .0 .0 .0 .0 .0 .0 .0 .0 .0 .0 .0 .0 .0 .0 .0 .0 .0 .1),
+      ne-eqb _ 0x02 (r .0 .0 .0 .0 .0 .0 .0 .0 .0 .0 .0 .0 .0 .0 .0 .0 .0 .0 .0 .1),
+      ne-eqb _ 0x03 (r .0 .0 .0 .0 .0 .0 .0 .0 .0 .0 .0 .0 .0 .0 .0 .0 .0 .0 .1),
+      ne-eqb _ 0x04 (r .0 .0 .0 .0 .0 .0 .0 .0 .0 .0 .0 .0 .0 .0 .0 .0 .0 .1),
+      ne-eqb _ 0x05 (r .0 .0 .0 .0 .0 .0 .0 .0 .0 .0 .0 .0 .0 .0 .0 .0 .1),
+      ne-eqb _ 0x06 (r .0 .0 .0 .0 .0 .0 .0 .0 .0 .0 .0 .0 .0 .0 .0 .1),
+      ne-eqb _ 0x07 (r .0 .0 .0 .0 .0 .0 .0 .0 .0 .0 .0 .0 .0 .0 .1),
+      ne-eqb _ 0x08 (r .0 .0 .0 .0 .0 .0 .0 .0 .0 .0 .0 .0 .0 .1),
+      ne-eqb _ 0x09 (r .0 .0 .0 .0 .0 .0 .0 .0 .0 .0 .0 .0 .1),
+      ne-eqb _ 0x0A (r .0 .0 .0 .0 .0 .0 .0 .0 .0 .0 .0 .1),
+      ne-eqb _ 0x0B (r .0 .0 .0 .0 .0 .0 .0 .0 .0 .0 .1),
+      ne-eqb _ 0x0C (r .0 .0 .0 .0 .0 .0 .0 .0 .0 .1),
+      ne-eqb _ 0x0D (r .0 .0 .0 .0 .0 .0 .0 .0 .1),
+      ne-eqb _ 0x0E (r .0 .0 .0 .0 .0 .0 .0 .1),
+      ne-eqb _ 0x10 (r .0 .0 .0 .0 .0 .0 .1),
+      ne-eqb _ 0x11 (r .0 .0 .0 .0 .0 .1),
+      ne-eqb _ 0x12 (r .0 .0 .0 .0 .1),
+      ne-eqb _ 0x1B (r .0 .0 .0 .1),
+      ne-eqb _ 0x1C (r .0 .0 .1),
+      ne-eqb _ 0x1D (r .0 .1),
+      ne-eqb _ 0x1E (r .1),
+    )
 
 pub from-byte-spec : {M : Type 1} → statement M
 from-byte-spec =
     tie.close
     (tie.spec
-    returns
-    returns-2
-    returns-3
-    returns-4
-    returns-5
-    returns-6
-    returns-7
-    returns-8
-    returns-9
-    returns-10
-    returns-11
-    returns-12
-    returns-13
-    returns-14
-    returns-15
-    returns-16
-    returns-17
-    returns-18
-    returns-19
-    returns-20
-    returns-21
-    returns-22
+    (λ c. rw (c .match .keys1))
+    (λ c. rw (c .match .keys2))
+    (λ c. rw (c .match .keys3))
+    (λ c. rw (c .match .keys4))
+    (λ c. rw (c .match .keys5))
+    (λ c. rw (c .match .keys6))
+    (λ c. rw (c .match .keys7))
+    (λ c. rw (c .match .keys8))
+    (λ c. rw (c .match .keys9))
+    (λ c. rw (c .match .keys10))
+    (λ c. rw (c .match .keys11))
+    (λ c. rw (c .match .keys12))
+    (λ c. rw (c .match .keys13))
+    (λ c. rw (c .match .keys14))
+    (λ c. rw (c .match .keys15))
+    (λ c. rw (c .match .keys16))
+    (λ c. rw (c .match .keys17))
+    (λ c. rw (c .match .keys18))
+    (λ c. rw (c .match .keys19))
+    (λ c. rw (c .match .keys20))
+    (λ c. rw (c .match .keys21))
+    (λ c. rw (c .match .keys22))
     returns-23)

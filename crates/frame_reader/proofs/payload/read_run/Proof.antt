@@ -4,7 +4,7 @@ use Rattle.packed.specs.Packed.{unpackedLength}
 use Rattle.refusal.proofs.Given.{refused-too}
 use Rattle.frame_reader.proofs.payload.Tests.{fields-tested, run-too-short, any-run, run-accepted, run-numbered, run-refused, raw-small}
 use Rattle.frame_reader.specs.Payload.{prefixLength, accepted, numberedBy}
-use Rattle.message.specs.Prefix.{smallChecked}
+use Rattle.message.specs.quick.Prefix.{smallChecked}
 use Rattle.packed.proofs.Lengths.{unpacked-given}
 use Rattle.command.specs.Payload.{rawLengthFor}
 use Rattle.command.specs.Command.{codeOf}

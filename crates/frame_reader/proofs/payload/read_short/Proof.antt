@@ -1,5 +1,5 @@
 -- `read_short` meets its contract: length, then fields.
-use Rattle.message.specs.Prefix.{smallChecked}
+use Rattle.message.specs.quick.Prefix.{smallChecked}
 use Rattle.frame_reader.proofs.payload.Tests.{fields-untested}
 use Rattle.frame_reader.specs.Payload.{prefixLength}
 use Rattle.command.specs.declared.Row.{Row}

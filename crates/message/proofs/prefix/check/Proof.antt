@@ -1,8 +1,8 @@
 -- `check` meets its contract: it makes the prefix of the command's own fields, reads these back, and tests them by kind.
 use mathlib.Core.Bool.{true, false}
 use Rattle.message.proofs.prefix.ByKind.{checked-prefix, fields-five, version-refused, version-passed}
-use Rattle.message.proofs.prefix.ByKind.{checked-prefix, version-refused, version-passed}
-use Rattle.message.specs.Prefix.{carriesRun, smallChecked}
+use Rattle.message.specs.Prefix.{carriesRun}
+use Rattle.message.specs.quick.Prefix.{smallChecked}
 use Rattle.ids.specs.Version.{versionTold}
 use mathlib.Core.Path.{_≡_, ap, sym, _∙_}
 use borrow.Author.Needs.{needs}
