@@ -11,6 +11,7 @@ use Rattle.refusal.specs.Outcome.{Outcome, gives, refused, refusal, unless, and
 use Rattle.ids.specs.Device.{deviceOf}
 use Rattle.command.specs.Command.{commandOf}
 use Rattle.framing.specs.Framing.{whenFramed, whenSevenBit, body, sameBytes}
+pub use Rattle.framing.specs.Framing.{maker}
 use Rattle.message.specs.declared.head.Frame.{Frame}
 use Rattle.message.specs.Head.{headFrom}
 use Rattle.message.specs.Prefix.{carriesRun, fieldList}
@@ -25,10 +26,6 @@ use Rattle.frame_reader.specs.declared.LocatedAnswer.the-variants as fa
 -- "Row: F0 00 20 32 20, device, command, payload, F7"
 abbrev pub payload : List ℕ → List ℕ
 payload bytes = take (length bytes - 8) (drop 7 bytes)
-
--- the maker's three bytes and the model: "00 20 32 20"
-abbrev pub maker : List ℕ
-maker = 0x00 ∷ 0x20 ∷ 0x32 ∷ 0x20 ∷ []
 
 -- "device (5); command (6); then payload"
 abbrev pub readCommand : List ℕ → Outcome Record

@@ -57,8 +57,8 @@ fn read_header(bytes: &[u8]) -> RecordAnswer
     if len < 8 {
         return RecordAnswer::Err(Refusal::ShortFrame(len));
     }
-    let behringer = [0x00u8, 0x20, 0x32, 0x20];
-    if !framing::same_bytes(&bytes[1..5], &behringer) {
+    let ours = framing::MAKER_AND_MODEL;
+    if !framing::same_bytes(&bytes[1..5], &ours) {
         return RecordAnswer::Err(Refusal::Foreign {
             maker0: bytes[1],
             maker1: bytes[2],

@@ -10,7 +10,7 @@ use Rattle.ids.specs.declared.device.DeviceId.{DeviceId}
 use Rattle.ids.specs.Device.{deviceByte, deviceInRange}
 use Rattle.command.specs.declared.Command.{Command}
 use Rattle.command.specs.Command.{codeOf, commandOf}
-use Rattle.framing.specs.Framing.{whenSevenBit}
+use Rattle.framing.specs.Framing.{whenSevenBit, maker}
 use Rattle.message.specs.declared.fields.Fields.{Fields}
 use Rattle.message.specs.declared.head.Head.{Head}
 use Rattle.message.specs.declared.head.Frame.{Frame}
@@ -19,7 +19,7 @@ use Rattle.message.specs.Prefix.{carriesRun, prefixOf, checkedFields}
 
 -- "Row: F0 00 20 32 20, device, command, payload, F7"
 abbrev pub header : ℕ → ℕ → List ℕ
-header device code = 0xF0 ∷ 0x00 ∷ 0x20 ∷ 0x32 ∷ 0x20 ∷ device ∷ code ∷ []
+header device code = 0xF0 ∷ maker ++ (device ∷ code ∷ [])
 
 -- the payload is a prefix and a run
 abbrev pub row : ℕ → ℕ → List ℕ → List ℕ → List ℕ

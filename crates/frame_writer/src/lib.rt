@@ -62,11 +62,12 @@ fn put_header(device: u8, code: u8, out: &mut [u8])
     requires { ⌜ 7 ≤ length (now out) ⌝ }
     ensures { λ _. ⌜ now (out .exit) ≡ header device code ++ drop 7 (now (out .entry)) ⌝ }
 {
+    let ours = framing::MAKER_AND_MODEL;
     out[0] = framing::SYSEX_START;
-    out[1] = 0x00;
-    out[2] = 0x20;
-    out[3] = 0x32;
-    out[4] = 0x20;
+    out[1] = ours[0];
+    out[2] = ours[1];
+    out[3] = ours[2];
+    out[4] = ours[3];
     out[5] = device;
     out[6] = code;
 }

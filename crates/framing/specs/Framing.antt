@@ -1,4 +1,4 @@
--- The first two rules of every frame, each a definition of its own.
+-- The first two rules of every frame, each a definition of its own, and the bytes of maker and model.
 use mathlib.Core.Bool.{Bool, true, false, _&&_}
 use mathlib.Core.List.{List, [], _∷_}
 use Prim.Native.Nat.{ℕ, _-_}
@@ -34,6 +34,10 @@ unlessHigh (m.Some b) next = refused 2 (b ∷ [])
 -- 2, with the byte
 abbrev pub whenSevenBit : {A : Type 0} → List ℕ → Outcome A → Outcome A
 whenSevenBit bytes next = unlessHigh (firstHigh bytes) next
+
+-- the maker's three bytes and the model: "00 20 32 20", in every frame and in every identity reply
+abbrev pub maker : List ℕ
+maker = 0x00 ∷ 0x20 ∷ 0x32 ∷ 0x20 ∷ []
 
 -- two lists compared byte by byte
 abbrev pub sameBytes : List ℕ → List ℕ → Bool

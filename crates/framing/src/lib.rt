@@ -1,4 +1,4 @@
-// What frames and identity messages share: F0 and F7 at the ends, and bytes below 80 between them.
+// What frames and identity messages share: F0 and F7 at the ends, bytes below 80 between them, maker and model.
 ghost use mathlib.Core.Path.{_≡_};
 ghost use lib.ListN.{getD};
 ghost use Rattle.ids.specs.Device.{deviceInRange};
@@ -8,6 +8,14 @@ use ids::DeviceId;
 pub const SYSEX_START: u8 = 0xF0;
 
 pub const SYSEX_END: u8 = 0xF7;
+
+// The maker's three bytes and the model's: they stand in every frame and in every reply.
+pub const MAKER_AND_MODEL: [u8; 4] = [
+    ids::MANUFACTURER_ID[0],
+    ids::MANUFACTURER_ID[1],
+    ids::MANUFACTURER_ID[2],
+    ids::Model::MODEL_ID,
+];
 
 // From here on looking at all bytes at once is the faster way to find no high one.
 const LONG: usize = 32;

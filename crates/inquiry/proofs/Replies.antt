@@ -2,7 +2,7 @@
 -- bytes.
 use mathlib.Core.Path.{_≡_, ap, sym, _∙_}
 use mathlib.Core.Bool.{Bool, _&&_}
-use mathlib.Core.List.{List, [], _∷_}
+use mathlib.Core.List.{List, [], _∷_, _++_}
 use Prim.Native.Nat.{ℕ, _+_, _-_, _<_}
 use native.Mathlib.Omega.{arith}
 use lib.Dec.{leb, eqb}
@@ -14,7 +14,7 @@ use Rattle.refusal.specs.Outcome.{gives, unless, andThen}
 use Rattle.refusal.proofs.Given.{passed, passed-on, given-first}
 use Rattle.ids.specs.declared.device.DeviceId.{DeviceId}
 use Rattle.ids.specs.Device.{deviceOf}
-use Rattle.framing.specs.Framing.{framed, sameBytes}
+use Rattle.framing.specs.Framing.{framed, sameBytes, maker}
 use Rattle.framing.proofs.Bytes.{same-is, spelled}
 use Rattle.inquiry.specs.declared.identity.Identity.{Identity}
 use Rattle.inquiry.specs.Reply.{isReply, identityAt, readReply}
@@ -22,7 +22,7 @@ use Rattle.inquiry.specs.Reply.{isReply, identityAt, readReply}
 -- "F0 7E device 06 02 00 20 32 20 00 01 00, firmware, one free byte, two voice bytes, F7"
 abbrev pub replyRow : ℕ → ℕ → ℕ → ℕ → ℕ → List ℕ
 replyRow device firmware free major minor =
-    0xF0 ∷ 0x7E ∷ device ∷ 0x06 ∷ 0x02 ∷ 0x00 ∷ 0x20 ∷ 0x32 ∷ 0x20 ∷ 0x00 ∷ 0x01 ∷ 0x00 ∷ firmware ∷ free ∷ major ∷ minor ∷ 0xF7 ∷ []
+    0xF0 ∷ 0x7E ∷ device ∷ 0x06 ∷ 0x02 ∷ maker ++ (0x00 ∷ 0x01 ∷ 0x00 ∷ firmware ∷ free ∷ major ∷ minor ∷ 0xF7 ∷ [])
 
 -- every such reply reads
 pub reply-row-reads : (device firmware free major minor : ℕ) (d : DeviceId) → deviceOf device ≡ gives d
@@ -35,7 +35,7 @@ pub reply-is-row : (bytes : List ℕ) (x : Identity) → readReply bytes ≡ giv
     → (bytes ≡ replyRow (getD bytes 2 0) (getD bytes 12 0) (getD bytes 13 0) (getD bytes 14 0) (getD bytes 15 0))
     × ((d : DeviceId) × (deviceOf (getD bytes 2 0) ≡ gives d) × (x ≡ identityAt d bytes))
 reply-is-row bytes x e =
-    let fixed : List ℕ = 0x06 ∷ 0x02 ∷ 0x00 ∷ 0x20 ∷ 0x32 ∷ 0x20 ∷ 0x00 ∷ 0x01 ∷ 0x00 ∷ [] in
+    let fixed : List ℕ = 0x06 ∷ 0x02 ∷ maker ++ (0x00 ∷ 0x01 ∷ 0x00 ∷ []) in
     let inside = andThen (deviceOf (getD bytes 2 0)) (λ d. gives (identityAt d bytes)) in
     let e1 = passed-on (framed bytes) 1 [] (unless (isReply bytes) 16 [] inside) x e in
     let ends = passed (framed bytes) 1 [] (unless (isReply bytes) 16 [] inside) x e in

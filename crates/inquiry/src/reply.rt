@@ -28,7 +28,18 @@ fn is_reply(bytes: &[u8]) -> bool
     if bytes[1] != NON_REALTIME {
         return false;
     }
-    let wanted = [0x06u8, 0x02, 0x00, 0x20, 0x32, 0x20, 0x00, 0x01, 0x00];
+    let ours = framing::MAKER_AND_MODEL;
+    let wanted = [
+        0x06u8,
+        0x02,
+        ours[0],
+        ours[1],
+        ours[2],
+        ours[3],
+        0x00,
+        0x01,
+        0x00,
+    ];
     framing::same_bytes(&bytes[3..12], &wanted)
 }
 
@@ -77,15 +88,16 @@ pub fn reply_into(identity: Identity, out: &mut [u8]) -> Count
     }
     let firmware = identity.firmware;
     let packed = firmware.to_packed();
+    let ours = framing::MAKER_AND_MODEL;
     out[0] = framing::SYSEX_START;
     out[1] = NON_REALTIME;
     out[2] = byte;
     out[3] = 0x06;
     out[4] = 0x02;
-    out[5] = 0x00;
-    out[6] = 0x20;
-    out[7] = 0x32;
-    out[8] = 0x20;
+    out[5] = ours[0];
+    out[6] = ours[1];
+    out[7] = ours[2];
+    out[8] = ours[3];
     out[9] = 0x00;
     out[10] = 0x01;
     out[11] = 0x00;

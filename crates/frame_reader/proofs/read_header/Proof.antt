@@ -24,18 +24,6 @@ slice-aggregate-same-bytes c = search needs
 same-bytes-requires : tie.Need-same-bytes-requires
 same-bytes-requires c κs = search needs
 
-shared-slice-read-t21 : tie.Need-shared-slice-read-t21
-shared-slice-read-t21 c = search needs
-
-shared-slice-read-t23 : tie.Need-shared-slice-read-t23
-shared-slice-read-t23 c = search needs
-
-shared-slice-read-t25 : tie.Need-shared-slice-read-t25
-shared-slice-read-t25 c = search needs
-
-shared-slice-read-t27 : tie.Need-shared-slice-read-t27
-shared-slice-read-t27 c = search needs
-
 returns-2 : tie.Need-returns-2
 returns-2 c = let b = c .before .before .before .before .before .before .before .before in
     rw (le-leb 8 _ (b .if1 .left), sym (c .before .before .before .before .before .same-bytes .ensures) ∙ not-true _ (c .before .before .before .before .if2 .taken))
@@ -161,10 +149,10 @@ read-header-spec =
     part-same-bytes-end
     slice-aggregate-same-bytes
     same-bytes-requires
-    shared-slice-read-t21
-    shared-slice-read-t23
-    shared-slice-read-t25
-    shared-slice-read-t27
+    (λ c. search needs)
+    (λ c. search needs)
+    (λ c. search needs)
+    (λ c. search needs)
     returns-2
     shared-slice-read-from-byte
     from-byte-requires

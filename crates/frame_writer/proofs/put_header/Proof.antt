@@ -26,10 +26,10 @@ slice-write-out-6 : tie.Need-slice-write-out-6
 slice-write-out-6 c = simp length-set (omega arith)
 
 slice-write-out-7 : tie.Need-slice-write-out-7
-slice-write-out-7 c = search needs
+slice-write-out-7 c = simp length-set (omega arith)
 
 same-length : tie.Need-same-length
-same-length c = search needs
+same-length c = simp length-set
 
 returns : tie.Need-returns
 returns c = let a = c .args in sets-eq (header (a .device) (a .code)) (a .out .now) 0 (omega arith)
@@ -39,9 +39,13 @@ put-header-spec =
     tie.close
     (tie.spec
     slice-write-out
+    (λ c. search needs)
     slice-write-out-2
+    (λ c. search needs)
     slice-write-out-3
+    (λ c. search needs)
     slice-write-out-4
+    (λ c. search needs)
     slice-write-out-5
     slice-write-out-6
     slice-write-out-7

@@ -39,6 +39,10 @@ is-reply-spec =
     returns
     shared-slice-read-if2
     returns-2
+    (λ c. search needs)
+    (λ c. search needs)
+    (λ c. search needs)
+    (λ c. search needs)
     sub-same-bytes
     part-same-bytes-start
     part-same-bytes-end

@@ -114,9 +114,13 @@ reply-into-spec =
     slice-write-out-3
     slice-write-out-4
     slice-write-out-5
+    (λ c. search needs)
     slice-write-out-6
+    (λ c. search needs)
     slice-write-out-7
+    (λ c. search needs)
     slice-write-out-8
+    (λ c. search needs)
     slice-write-out-9
     slice-write-out-10
     slice-write-out-11
