@@ -1,9 +1,9 @@
 // The bench's words over the proved crates: a request's text in, the answer's text out.
-pub mod frames;
 pub mod line;
 pub mod said;
 pub mod small;
 pub mod streams;
+pub mod sysex;
 pub mod wires;
 
 // How many words are answered here; it also stands for any other word.
@@ -61,9 +61,9 @@ fn stream_answer(word: usize, ask: &[u8], at: usize, out: &mut [u8]) -> usize {
 // The words of frames and identity.
 fn frame_answer(word: usize, ask: &[u8], at: usize, out: &mut [u8]) -> usize {
     match word {
-        18 => frames::frame(ask, at, out),
-        19 => frames::fwrite(ask, at, out),
-        20 => frames::readback(ask, at, out),
+        18 => sysex::frame(ask, at, out),
+        19 => sysex::fwrite(ask, at, out),
+        20 => sysex::readback(ask, at, out),
         21 => wires::ireq(ask, at, out),
         22 => wires::irep(ask, at, out),
         23 => wires::wreq(ask, at, out),

@@ -53,9 +53,27 @@ fn tells(frame: Frame, run: &[u8], out: &mut [u8]) -> usize {
     said::hex(out, e, run)
 }
 
+// Is a frame that the reader takes the same bytes when it is written again?
+fn stays(bytes: &[u8]) -> bool {
+    let mut space = io::buffer();
+    match frame_view::again::write_again(bytes, &mut space) {
+        Count::Ok(count) => framing::same_bytes(text::front(&space, count), bytes),
+        Count::Err(_) => false,
+    }
+}
+
+// What a frame that the reader takes says; a mark that no recorded answer has, where it is not written again as the same bytes.
+fn taken(frame: Frame, bytes: &[u8], out: &mut [u8]) -> usize {
+    let at = tells(frame, frame_reader::run_of(bytes), out);
+    if stays(bytes) {
+        return at;
+    }
+    text::put(out, at, 33)
+}
+
 fn reads(bytes: &[u8], out: &mut [u8]) -> usize {
     match frame_reader::parse(bytes) {
-        FrameAnswer::Ok(frame) => tells(frame, frame_reader::run_of(bytes), out),
+        FrameAnswer::Ok(frame) => taken(frame, bytes, out),
         FrameAnswer::Err(e) => said::refused(out, e),
     }
 }
