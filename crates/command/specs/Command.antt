@@ -37,7 +37,12 @@ codeOf k.PolyChordMemoryDumpResponse = 0x1E
 -- all of them, in the paper's order
 abbrev pub commands : List Command
 commands =
-    k.ControlAppNotifyRequest ∷ k.ProgramDumpRequest ∷ k.ProgramDumpResponse ∷ k.EditBufferDumpRequest ∷ k.EditBufferDumpResponse ∷ k.GlobalParameterDumpRequest ∷ k.GlobalParameterDumpResponse ∷ k.SingleUserPatternDumpRequest ∷ k.UserPatternDumpResponse ∷ k.ProgramBankDumpRequest ∷ k.BankProgramNamesDumpRequest ∷ k.BankProgramNamesDumpResponse ∷ k.SingleProgramNameDumpRequest ∷ k.SingleProgramNameDumpResponse ∷ k.EditBufferPatternDumpRequest ∷ k.ControlAppNotifyResponse ∷ k.CalibrationDataDumpRequest ∷ k.CalibrationDataDumpResponse ∷ k.ChordMemoryDumpRequest ∷ k.ChordMemoryDumpResponse ∷ k.PolyChordMemoryDumpRequest ∷ k.PolyChordMemoryDumpResponse ∷ []
+    k.ControlAppNotifyRequest ∷ k.ProgramDumpRequest ∷ k.ProgramDumpResponse ∷ k.EditBufferDumpRequest ∷ k.EditBufferDumpResponse ∷
+    k.GlobalParameterDumpRequest ∷ k.GlobalParameterDumpResponse ∷ k.SingleUserPatternDumpRequest ∷ k.UserPatternDumpResponse ∷
+    k.ProgramBankDumpRequest ∷ k.BankProgramNamesDumpRequest ∷ k.BankProgramNamesDumpResponse ∷ k.SingleProgramNameDumpRequest ∷
+    k.SingleProgramNameDumpResponse ∷ k.EditBufferPatternDumpRequest ∷ k.ControlAppNotifyResponse ∷ k.CalibrationDataDumpRequest ∷
+    k.CalibrationDataDumpResponse ∷ k.ChordMemoryDumpRequest ∷ k.ChordMemoryDumpResponse ∷ k.PolyChordMemoryDumpRequest ∷
+    k.PolyChordMemoryDumpResponse ∷ []
 
 -- the command among some that has a code; 6 with the byte where none has
 abbrev pub among : List Command → ℕ → Outcome Command

@@ -92,7 +92,9 @@ fourteen l e =
     (one 1 (omega (arith, e))
     (one 2 (omega (arith, e)) (one 3 (omega (arith, e))
     (one 4 (omega (arith, e)) (one 5 (omega (arith, e)) (one 6 (omega (arith, e))
-    (one 7 (omega (arith, e)) (one 8 (omega (arith, e)) (one 9 (omega (arith, e)) (one 10 (omega (arith, e)) (one 11 (omega (arith, e)) (one 12 (omega (arith, e)) (one 13 (omega (arith, e)) (drop-of-length-le l {i = 14} (omega (arith, e))))))))))))))))
+    (one 7 (omega (arith, e))
+    (one 8 (omega (arith, e)) (one 9 (omega (arith, e))
+    (one 10 (omega (arith, e)) (one 11 (omega (arith, e)) (one 12 (omega (arith, e)) (one 13 (omega (arith, e)) (drop-of-length-le l {i = 14} (omega (arith, e))))))))))))))))
   where
     one : (j : ℕ) {rest : List ℕ} → j < length l → drop (suc j) l ≡ rest → drop j l ≡ getD l j 0 ∷ rest
     one j h q = drop-cons l j 0 h ∙ ap (λ (t : List ℕ). getD l j 0 ∷ t) q

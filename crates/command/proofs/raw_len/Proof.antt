@@ -24,9 +24,11 @@ program-data-len-requires-2 : tie.Need-program-data-len-requires-2
 program-data-len-requires-2 c κs = search needs
 
 returns-2 : tie.Need-returns-2
-returns-2 c = let a = c .before .before .before .before .args in
+returns-2 c =
+    let to-byte = c .before .before .before .to-byte in
+    let a = c .before .before .before .before .args in
     c .program-data-len2 .ensures
-    ∙ ap (λ (j : Command). rawLengthFor j (a .version .0)) (same-code k.EditBufferDumpResponse (a .command) (sym (sym (c .before .before .before .to-byte .ensures) ∙ c .before .if2 .taken)))
+    ∙ ap (λ (j : Command). rawLengthFor j (a .version .0)) (same-code k.EditBufferDumpResponse (a .command) (sym (sym (to-byte .ensures) ∙ c .before .if2 .taken)))
 
 row-requires : tie.Need-row-requires
 row-requires c κs = search needs

@@ -12,7 +12,8 @@ returns : tie.Need-returns
 returns c = sym (by-arm (λ j. isRun (payloadOf j .run)) (2 ∷ 4 ∷ 6 ∷ 8 ∷ 11 ∷ 13 ∷ 17 ∷ 19 ∷ 21 ∷ []) refl (c .before .args .self) (c .match .keys1))
 
 returns-2 : tie.Need-returns-2
-returns-2 c = sym (not-true _ (by-arm (λ j. not (isRun (payloadOf j .run))) (0 ∷ 1 ∷ 3 ∷ 5 ∷ 7 ∷ 9 ∷ 10 ∷ 12 ∷ 14 ∷ 15 ∷ 16 ∷ 18 ∷ 20 ∷ []) refl (c .before .args .self) (c .match .keys2)))
+returns-2 c = sym
+    (not-true _ (by-arm (λ j. not (isRun (payloadOf j .run))) (0 ∷ 1 ∷ 3 ∷ 5 ∷ 7 ∷ 9 ∷ 10 ∷ 12 ∷ 14 ∷ 15 ∷ 16 ∷ 18 ∷ 20 ∷ []) refl (c .before .args .self) (c .match .keys2)))
 
 pub carries-run-spec : {M : Type 1} → statement M
 carries-run-spec = tie.close (tie.spec returns returns-2)

@@ -43,9 +43,13 @@ from-tested-requires : tie.Need-from-tested-requires
 from-tested-requires c κs = search needs
 
 returns-2 : tie.Need-returns-2
-returns-2 c = let a = c .before .before .before .before .before .before .args in
-    let ok : deviceInRange (a .device) ≡ true = sym (c .before .before .before .before .before .device-in-range .ensures) ∙ not-false _ (c .before .before .before .before .if1 .left) in
-    rw (ok, ← c .before .before .before .from-byte .ensures, c .before .e .given .1)
+returns-2 c =
+    let device-in-range = c .before .before .before .before .before .device-in-range in
+    let if1 = c .before .before .before .before .if1 in
+    let from-byte = c .before .before .before .from-byte in
+    let a = c .before .before .before .before .before .before .args in
+    let ok : deviceInRange (a .device) ≡ true = sym (device-in-range .ensures) ∙ not-false _ (if1 .left) in
+    rw (ok, ← from-byte .ensures, c .before .e .given .1)
 
 returns-3 : tie.Need-returns-3
 returns-3 c = let b = c .before .before .before .before .before .before .before in
@@ -54,11 +58,15 @@ returns-3 c = let b = c .before .before .before .before .before .before .before 
     rw (ok, ← b .from-byte .ensures, c .before .before .before .before .before .known .given .1, ← c .before .before .before .check .ensures, c .before .e2 .given .1)
 
 returns-4 : tie.Need-returns-4
-returns-4 c = let b = c .before .before .before .before .before .before .before .before in
+returns-4 c =
+    let known = c .before .before .before .before .before .before .known in
+    let check = c .before .before .before .before .check in
+    let own = c .before .before .own in
+    let b = c .before .before .before .before .before .before .before .before in
     let frame : Head → Frame = λ m. record { device = b .before .before .before .args .device; head = m } in
     let a = b .before .before .before .args in
     let ok : deviceInRange (a .device) ≡ true = sym (b .before .before .device-in-range .ensures) ∙ not-false _ (b .before .if1 .left) in
-    rw (ok, ← b .from-byte .ensures, c .before .before .before .before .before .before .known .given .1, ← c .before .before .before .before .check .ensures, c .before .before .own .given .1)
+    rw (ok, ← b .from-byte .ensures, known .given .1, ← check .ensures, own .given .1)
     (ap (λ (m : Head). gives (frame m)) (c .from-tested .ensures))
 
 pub from-record-spec : {M : Type 1} → statement M

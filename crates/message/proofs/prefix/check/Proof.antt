@@ -46,32 +46,49 @@ check-small-requires : tie.Need-check-small-requires
 check-small-requires c κs = search needs
 
 returns : tie.Need-returns
-returns c = let s = c .before .before .before .before .before .before .before .before in
+returns c =
+    let carries-run = c .before .before .before .before .before .carries-run in
+    let if1 = c .before .before .before .before .if1 in
+    let new = c .before .before .before .new in
+    let s = c .before .before .before .before .before .before .before .before in
     let a = s .before .args in
     let own = c .before .before .before .before .before .before .fields-at in
-    let run : carriesRun (a .command) ≡ true = sym (c .before .before .before .before .before .carries-run .ensures) ∙ c .before .before .before .before .if1 .taken in
-    version-refused (own .result .version) (c .before .e .given .0 .0) (smallChecked (own .result)) (ap versionTold (sym (c .before .e .given .1)) ∙ c .before .before .before .new .ensures)
-    ∙ sym (checked-prefix (a .command) (a .fields) (own .result) (s .prefix-of .result .bytes) (s .prefix-of .ensures .is) (own .ensures ∙ fields-five (a .command) (a .fields .«has_pattern») (s .prefix-of .result .bytes)) ∙ rw run)
+    let run : carriesRun (a .command) ≡ true = sym (carries-run .ensures) ∙ if1 .taken in
+    version-refused (own .result .version) (c .before .e .given .0 .0) (smallChecked (own .result)) (ap versionTold (sym (c .before .e .given .1)) ∙ new .ensures)
+    ∙ sym
+    (checked-prefix (a .command) (a .fields) (own .result) (s .prefix-of .result .bytes) (s .prefix-of .ensures .is)
+    (own .ensures ∙ fields-five (a .command) (a .fields .«has_pattern») (s .prefix-of .result .bytes)) ∙ rw run)
 
 returns-2 : tie.Need-returns-2
-returns-2 c = let s = c .before .before .before .before .before .before .before .before in
+returns-2 c =
+    let carries-run = c .before .before .before .before .before .carries-run in
+    let if1 = c .before .before .before .before .if1 in
+    let new = c .before .before .before .new in
+    let s = c .before .before .before .before .before .before .before .before in
     let a = s .before .args in
     let own = c .before .before .before .before .before .before .fields-at in
-    let run : carriesRun (a .command) ≡ true = sym (c .before .before .before .before .before .carries-run .ensures) ∙ c .before .before .before .before .if1 .taken in
+    let run : carriesRun (a .command) ≡ true = sym (carries-run .ensures) ∙ if1 .taken in
     let x = c .before .enum-told .given .0 .0 in
     c .check-small .ensures
-    ∙ sym (checked-prefix (a .command) (a .fields) (own .result) (s .prefix-of .result .bytes) (s .prefix-of .ensures .is) (own .ensures ∙ fields-five (a .command) (a .fields .«has_pattern») (s .prefix-of .result .bytes)) ∙ rw run (version-passed (own .result .version) x (smallChecked (own .result)) (ap versionTold (sym (c .before .enum-told .given .1)) ∙ c .before .before .before .new .ensures)))
+    ∙ sym
+    (checked-prefix (a .command) (a .fields) (own .result) (s .prefix-of .result .bytes) (s .prefix-of .ensures .is)
+    (own .ensures ∙ fields-five (a .command) (a .fields .«has_pattern») (s .prefix-of .result .bytes)) ∙ rw run
+    (version-passed (own .result .version) x (smallChecked (own .result)) (ap versionTold (sym (c .before .enum-told .given .1)) ∙ new .ensures)))
 
 check-small-requires-2 : tie.Need-check-small-requires-2
 check-small-requires-2 c κs = search needs
 
 returns-3 : tie.Need-returns-3
-returns-3 c = let s = c .before .before .before .before .before in
+returns-3 c =
+    let carries-run = c .before .before .carries-run in
+    let s = c .before .before .before .before .before in
     let a = s .before .args in
     let own = c .before .before .before .fields-at in
-    let run : carriesRun (a .command) ≡ false = sym (c .before .before .carries-run .ensures) ∙ c .before .if1 .left in
+    let run : carriesRun (a .command) ≡ false = sym (carries-run .ensures) ∙ c .before .if1 .left in
     c .check-small2 .ensures
-    ∙ sym (checked-prefix (a .command) (a .fields) (own .result) (s .prefix-of .result .bytes) (s .prefix-of .ensures .is) (own .ensures ∙ fields-five (a .command) (a .fields .«has_pattern») (s .prefix-of .result .bytes)) ∙ rw run)
+    ∙ sym
+    (checked-prefix (a .command) (a .fields) (own .result) (s .prefix-of .result .bytes) (s .prefix-of .ensures .is)
+    (own .ensures ∙ fields-five (a .command) (a .fields .«has_pattern») (s .prefix-of .result .bytes)) ∙ rw run)
 
 pub check-spec : {M : Type 1} → statement M
 check-spec =

@@ -163,10 +163,14 @@ returns-8 : tie.Need-returns-8
 returns-8 c = record { long = rw (c .before .enum-told8 .given .1) (c .padded8 .ensures .0); is = rw (c .before .enum-told8 .given .1) (c .padded8 .ensures .1) }
 
 returns-9 : tie.Need-returns-9
-returns-9 c = record { long = rw (c .before .before .enum-told9 .given .1, c .before .if1 .taken) (c .padded9 .ensures .0); is = rw (c .before .before .enum-told9 .given .1, c .before .if1 .taken) (c .padded9 .ensures .1) }
+returns-9 c =
+    let enum-told9 = c .before .before .enum-told9 in
+    record { long = rw (enum-told9 .given .1, c .before .if1 .taken) (c .padded9 .ensures .0); is = rw (enum-told9 .given .1, c .before .if1 .taken) (c .padded9 .ensures .1) }
 
 returns-10 : tie.Need-returns-10
-returns-10 c = record { long = rw (c .before .before .enum-told9 .given .1, c .before .if1 .left) (c .padded10 .ensures .0); is = rw (c .before .before .enum-told9 .given .1, c .before .if1 .left) (c .padded10 .ensures .1) }
+returns-10 c =
+    let enum-told9 = c .before .before .enum-told9 in
+    record { long = rw (enum-told9 .given .1, c .before .if1 .left) (c .padded10 .ensures .0); is = rw (enum-told9 .given .1, c .before .if1 .left) (c .padded10 .ensures .1) }
 
 returns-11 : tie.Need-returns-11
 returns-11 c = record { long = rw (c .before .enum-told10 .given .1) (c .padded11 .ensures .0); is = rw (c .before .enum-told10 .given .1) (c .padded11 .ensures .1) }

@@ -126,8 +126,11 @@ returns-15 : tie.Need-returns-15
 returns-15 c = rw (c .enum-told15 .given .1)
 
 returns-16 : tie.Need-returns-16
-returns-16 c = let f = c .before .before .before .args .fields in
-    rw (c .before .enum-told16 .given .1) (ap (λ (x : Interface). h.ControlAppNotifyResponse (f .rx) (f .tx) x (record { 0 = f .bank }) (record { 0 = f .program })) (c .from-tested .ensures))
+returns-16 c =
+    let a = c .before .before .before .args in
+    let f = a .fields in
+    rw (c .before .enum-told16 .given .1)
+    (ap (λ (x : Interface). h.ControlAppNotifyResponse (f .rx) (f .tx) x (record { 0 = f .bank }) (record { 0 = f .program })) (c .from-tested .ensures))
 
 returns-17 : tie.Need-returns-17
 returns-17 c = rw (c .enum-told17 .given .1)

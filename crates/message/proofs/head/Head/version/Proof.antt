@@ -23,7 +23,10 @@ returns c = let m = c .before .before .before .before .args .self in
     ∙ sym (version-there m (ap carriesRun (sym (c .before .before .before .command .ensures)) ∙ sym (c .before .before .carries-run .ensures) ∙ c .before .if1 .taken))
 
 returns-2 : tie.Need-returns-2
-returns-2 c = sym (version-lacking (c .before .before .before .args .self) (ap carriesRun (sym (c .before .before .command .ensures)) ∙ sym (c .before .carries-run .ensures) ∙ c .if1 .left))
+returns-2 c =
+    let a = c .before .before .before .args in
+    let command = c .before .before .command in
+    sym (version-lacking (a .self) (ap carriesRun (sym (command .ensures)) ∙ sym (c .before .carries-run .ensures) ∙ c .if1 .left))
 
 pub version-spec : {M : Type 1} → statement M
 version-spec =
