@@ -17,7 +17,7 @@ fn the_picture_is_current() {
 #[test]
 fn another_list_is_another_picture() {
     let crates = text("crates.txt");
-    for (from, to) in [("host_wire:", "host_wires:"), ("packed: refusal laws", "packed: octets laws"), ("io libc os", "io libc")] {
+    for (from, to) in [("host_wire:", "host_wires:"), ("ids: refusal laws", "ids: octets laws"), ("io libc os", "io libc")] {
         assert!(crates.contains(from), "'{from}' is not in crates.txt");
         assert!(picture(&crates.replacen(from, to, 1)) != picture(&crates), "'{to}' for '{from}' makes no difference");
     }

@@ -57,11 +57,11 @@ fn early_len(command: Command) -> usize
 fn front(command: Command, payload: &[u8], numbered: bool) -> Fields
     ensures { λ r. ⌜ r ≡ fieldsAt command numbered (now (payload .entry)) ⌝ }
 {
-    let a = framing::byte_at(payload, 0);
-    let b = framing::byte_at(payload, 1);
-    let d = framing::byte_at(payload, 2);
-    let e = framing::byte_at(payload, 3);
-    let f = framing::byte_at(payload, 4);
+    let a = octets::byte_at(payload, 0);
+    let b = octets::byte_at(payload, 1);
+    let d = octets::byte_at(payload, 2);
+    let e = octets::byte_at(payload, 3);
+    let f = octets::byte_at(payload, 4);
     message::prefix::fields_at(command, a, b, d, e, f, numbered)
 }
 

@@ -1,6 +1,5 @@
 // What frames and identity messages share: F0 and F7 at the ends, bytes below 80 between them, maker and model.
 ghost use mathlib.Core.Path.{_≡_};
-ghost use lib.ListN.{getD};
 ghost use Rattle.ids.specs.Device.{deviceInRange};
 ghost use Rattle.framing.specs.Framing.{framed, firstHigh, sameBytes};
 use ids::DeviceId;
@@ -72,13 +71,6 @@ pub fn same_bytes(bytes: &[u8], others: &[u8]) -> bool
         i += 1;
     }
     true
-}
-
-// The byte at a place, and 0 behind the last.
-pub fn byte_at(bytes: &[u8], at: usize) -> u8
-    ensures { λ r. ⌜ r ≡ getD (now (bytes .entry)) at 0 ⌝ }
-{
-    if at < bytes.len() { bytes[at] } else { 0 }
 }
 
 // Can the device's byte stand in a frame? A unit above 0F can be made by hand, and has none.

@@ -53,13 +53,13 @@ pub fn parse_reply(bytes: &[u8]) -> IdentityAnswer
     if !is_reply(bytes) {
         return IdentityAnswer::Err(Refusal::NotAnInquiryResponse);
     }
-    match DeviceId::from_byte(framing::byte_at(bytes, 2)) {
+    match DeviceId::from_byte(octets::byte_at(bytes, 2)) {
         DeviceAnswer::Err(e) => IdentityAnswer::Err(e),
         DeviceAnswer::Ok(device) => {
-            let firmware = Version::from_packed(framing::byte_at(bytes, 12));
+            let firmware = Version::from_packed(octets::byte_at(bytes, 12));
             let voice = Version {
-                major: framing::byte_at(bytes, 14),
-                minor: framing::byte_at(bytes, 15),
+                major: octets::byte_at(bytes, 14),
+                minor: octets::byte_at(bytes, 15),
             };
             IdentityAnswer::Ok(Identity {
                 device,

@@ -36,7 +36,7 @@ pub fn parse_request(bytes: &[u8]) -> DeviceAnswer
     if !is_request(bytes) {
         return DeviceAnswer::Err(Refusal::NotAnInquiryRequest);
     }
-    DeviceId::from_byte(framing::byte_at(bytes, 2))
+    DeviceId::from_byte(octets::byte_at(bytes, 2))
 }
 
 // Writes a request. Refuses 5, then 14.

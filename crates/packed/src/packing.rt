@@ -1,22 +1,16 @@
 // Packs raw bytes: seven of them become eight on the wire.
 ghost use mathlib.Core.Path.{_≡_};
 ghost use Prim.Native.Nat.{_+_, _*_, _/_, _%_, _^_, _≤_, _<_};
-ghost use lib.ListN.{length, getD};
+ghost use lib.ListN.{length};
 ghost use Rattle.laws.specs.Tabulate.{tab};
 ghost use Rattle.laws.specs.Window.{window};
 ghost use Rattle.refusal.specs.Outcome.{Writes};
 ghost use Rattle.packed.specs.Packed.{groupByte, packedByte, packWrite};
 use crate::PACKED_GROUP;
 use crate::RAW_GROUP;
+use octets::byte_at;
 use refusal::Count;
 use refusal::Refusal;
-
-// The byte at a place, and 0 behind the last.
-fn byte_at(raw: &[u8], at: usize) -> u8
-    ensures { λ r. ⌜ r ≡ getD (now (raw .entry)) at 0 ⌝ }
-{
-    if at < raw.len() { raw[at] } else { 0 }
-}
 
 // The low seven bits.
 fn low_seven(byte: u8) -> u8
