@@ -186,7 +186,7 @@ fn is_quiet(word: &[u8]) -> bool {
 
 // A file by name; a word that begins with a hyphen names none.
 fn watch_named(word: &[u8], quiet: bool) {
-    if framing::byte_at(word, 0) == 45 {
+    if octets::byte_at(word, 0) == 45 {
         usage();
         return;
     }

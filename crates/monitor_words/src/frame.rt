@@ -150,7 +150,7 @@ fn put_universal(out: &mut [u8], at: usize, bytes: &[u8]) -> usize {
 
 // What a frame says, as the frame reader and the inquiry's readers have it.
 pub fn put_words(out: &mut [u8], at: usize, bytes: &[u8]) -> usize {
-    if framing::byte_at(bytes, 1) == inquiry::identity::NON_REALTIME {
+    if octets::byte_at(bytes, 1) == inquiry::identity::NON_REALTIME {
         return put_universal(out, at, bytes);
     }
     match frame_reader::parse(bytes) {

@@ -1,6 +1,6 @@
 // Channel, system common and real-time messages, by the bytes that the engine's writers make of them.
 use crate::then;
-use framing::byte_at;
+use octets::byte_at;
 use refusal::Count;
 use wire::CommonStatus;
 use wire::SystemCommon;
