@@ -101,7 +101,7 @@ runLength programData v = programDataLength v
 runLength (fixed n) v = n
 runLength any v = 0
 
--- the same for a command: how many raw bytes its run holds in a version
+-- how many raw bytes a command's run holds in a version
 abbrev pub rawLengthFor : Command → ℕ → ℕ
 rawLengthFor k v = runLength (payloadOf k .run) v
 

@@ -54,7 +54,7 @@ recordTold (ra.Err e) = refusal e
 abbrev pub frameOf : Record → Frame
 frameOf r = record { device = r .device; head = headFrom (r .command) (r .fields) }
 
--- the same with the message in place of plain fields: the Rust's `Frame::parse`
+-- the whole reader with the message in place of plain fields: the Rust's `Frame::parse`
 abbrev pub parsed : List ℕ → Outcome Frame
 parsed bytes = andThen (readRecord bytes) (λ r. gives (frameOf r))
 
@@ -75,7 +75,7 @@ runOf bytes = runIf (readRecord bytes) bytes
 abbrev pub placeIn : Record → ℕ
 placeIn r = pick (carriesRun (r .command)) (7 + length (fieldList (r .command) (r .fields .«has_pattern»))) 0
 
--- the same of what the reader gave; 0 where it gave a refusal
+-- where the run of what the reader gave begins; 0 where it gave a refusal
 abbrev pub placeIf : Outcome Record → ℕ
 placeIf (gives r) = placeIn r
 placeIf (refused n vs) = 0

@@ -86,7 +86,7 @@ module _ (d : DeviceId) (k : Command) (f own : Fields) (run out : List ℕ) (n l
       (went-on (leb n (length out)) 14 (n ∷ length out ∷ []) _ a out later (le-leb n (length out) room)
       (subst (λ (x : List ℕ). Writes (sevenBitWrite d k x (ownRun k run)) a out later) p (subst (λ (x : List ℕ). Writes (sevenBitWrite d k prefix x) a out later) q w)))
 
--- the same command and fields, said otherwise
+-- a command and its fields in two ways of saying
 pub same-fields : (d : DeviceId) (k l : Command) (f g : Fields) (run out later : List ℕ) (a : Count) → k ≡ l → f ≡ g
     → Writes (fieldsWrite d k f run (length out)) a out later → Writes (fieldsWrite d l g run (length out)) a out later
 same-fields d k l f g run out later a p q w =

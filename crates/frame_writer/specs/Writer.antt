@@ -34,7 +34,7 @@ abbrev pub lengthFor : Command → ℕ → ℕ → Outcome ℕ
 lengthFor k prefix run =
     unless (ltb (8 + prefix + pick (carriesRun k) run 0) (2 ^ 64)) 22 [] (gives (8 + prefix + pick (carriesRun k) run 0))
 
--- the same for a message: its command and its fields fix the prefix
+-- how long a message's frame is: its command and its fields fix the prefix
 abbrev pub headLength : Head → ℕ → Outcome ℕ
 headLength m run = lengthFor (commandOfHead m) (length (prefixOf (commandOfHead m) (fieldsOf m))) run
 

@@ -22,7 +22,7 @@ listed (not1mod8 ∷ rest) n = not (eqb (n % 8) 1) || listed rest n
 abbrev pub programs7 : List Stretch
 programs7 = lengths 280 280 ∷ lengths 282 287 ∷ []
 
--- the same, v 6 (242)
+-- program, edit, v 6 (raw 242)
 abbrev pub programs6 : List Stretch
 programs6 = lengths 277 280 ∷ lengths 282 284 ∷ []
 

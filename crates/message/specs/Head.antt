@@ -27,7 +27,7 @@ abbrev pub patternAt : Bool → ℕ → MaybePattern
 patternAt true n = p.Some (record { 0 = n })
 patternAt false n = p.None
 
--- and back: the fields of a pattern dump, its number 0 where it has none
+-- the fields of a pattern dump, its number 0 where it has none
 abbrev pub patternIn : ℕ → MaybePattern → Fields
 patternIn v (p.Some n) = patternFields v (n .0) true
 patternIn v p.None = patternFields v 0 false

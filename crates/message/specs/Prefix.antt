@@ -66,7 +66,7 @@ fieldsIn l has p = record {
 abbrev pub fieldsAt : Command → Bool → List ℕ → Fields
 fieldsAt k numbered p = fieldsIn (fieldList k numbered) (optional k && numbered) p
 
--- and back: the bytes of some fields; the first program, then the last
+-- the bytes of some fields in wire order; the first program, then the last
 abbrev pub wire : Bool → List Field → Fields → List ℕ
 wire first [] f = []
 wire first (y.free ∷ gs) f = f .free ∷ wire first gs f

@@ -32,7 +32,7 @@ pub record On (w : Walked) (bytes : List ℕ) (d : Decoder) (store : List ℕ) (
 pub on-begins : (d : Decoder) (store bytes : List ℕ) → On (walk d store bytes) bytes d store 0
 on-begins d store bytes = record { within = omega arith; rest = sym (none-further _) }
 
--- the same walk, by numbers
+-- two names of one walk have one answer by numbers
 numbered-as : (v w : Walked) (r : FedAnswer) (later left : List ℕ) → v ≡ w → Numbered w r later left → Numbered v r later left
 numbered-as v w r later left e n = subst (λ (x : Walked). Numbered x r later left) (sym e) n
 
