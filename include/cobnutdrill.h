@@ -46,7 +46,8 @@ extern "C" {
 #define DM_VALUE_TOO_LARGE 21             /* the value */
 #define DM_LENGTH_OVERFLOW 22             /* none */
 
-/* The number where no record names the kind that was asked for, or a flag is neither 0 nor 1. It has no details, and nothing is written. */
+/* The number where no record names the kind that was asked for, or a flag that is looked at is neither 0 nor 1. It has no details, and nothing is
+ * written. */
 #define DM_NO_RECORD 255
 
 /* The bytes of a decoder's state, and the frame limit: the least length of its store, and the longest frame that is reported. */
