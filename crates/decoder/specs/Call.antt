@@ -39,7 +39,7 @@ ended d store = record { fed = record { used = 0; state = d; interrupted = false
 abbrev pub stopped : Stepped → List ℕ → Walked
 stopped s store = record { fed = record { used = 1; state = s .state; interrupted = s .interrupted; report = s .report }; store = store }
 
--- so many bytes more
+-- a walk that began so many bytes further on
 abbrev pub further : ℕ → Walked → Walked
 further n w = record { fed = record { used = n + w .fed .used; state = w .fed .state; interrupted = w .fed .interrupted; report = w .fed .report }; store = w .store }
 

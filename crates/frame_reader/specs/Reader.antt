@@ -67,7 +67,7 @@ abbrev pub runIf : Outcome Record → List ℕ → List ℕ
 runIf (gives r) bytes = runIn r bytes
 runIf (refused n vs) bytes = []
 
--- empty for a frame that is refused
+-- the run of some bytes read as a frame; empty for a frame that is refused
 abbrev pub runOf : List ℕ → List ℕ
 runOf bytes = runIf (readRecord bytes) bytes
 

@@ -124,7 +124,7 @@ fn place_of(frame: Record, len: usize) -> Place
 {
     let command = frame.command;
     let fields = frame.fields;
-    if !message::prefix::carries_run(command) {
+    if !command.carries_run() {
         return Place { start: 0, len: 0 };
     }
     let start = 7 + message::prefix::prefix_of(command, fields).len;

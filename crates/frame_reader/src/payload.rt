@@ -143,7 +143,7 @@ fn read_dump(command: Command, payload: &[u8]) -> FieldsAnswer
 pub fn read_payload(command: Command, payload: &[u8]) -> FieldsAnswer
     ensures { λ r. ⌜ fieldsTold r ≡ readPayload command (now (payload .entry)) ⌝ }
 {
-    if message::prefix::carries_run(command) {
+    if command.carries_run() {
         return read_dump(command, payload);
     }
     read_short(command, payload)

@@ -15,7 +15,7 @@ pub struct Frame<'a> {
     pub run: &'a [u8],
 }
 
-// The frame of what the reader said and the run.
+// What the reader said and the run, as one frame.
 pub fn with_run<'a>(said: message::Frame, run: &'a [u8]) -> Frame<'a>
     ensures { λ r. ⌜ r ≡ withRun said (run .entry) ⌝ }
 {

@@ -27,7 +27,7 @@ pub const OVERHEAD_LEN: usize = 8;
 fn own_len(command: Command, run_len: usize) -> usize
     ensures { λ r. ⌜ r ≡ pick (carriesRun command) «run_len» 0 ⌝ }
 {
-    if !message::prefix::carries_run(command) {
+    if !command.carries_run() {
         return 0;
     }
     run_len
@@ -39,7 +39,7 @@ fn frame_len(command: Command, prefix_len: usize, run_len: usize) -> Count
     ensures { λ r. ⌜ counted r ≡ lengthFor command «prefix_len» «run_len» ⌝ }
 {
     let fixed = OVERHEAD_LEN + prefix_len;
-    if !message::prefix::carries_run(command) {
+    if !command.carries_run() {
         return Count::Ok(fixed);
     }
     if 0xFFFF_FFFF_FFFF_FFFF - fixed < run_len {

@@ -64,7 +64,7 @@ module _ (xs ys : List ℕ) (b : ℕ) (e : length xs + 1 ≡ limit) (ok : sevenB
       ∙ append-assoc (replicate limit []) ((report19 ∷ []) ∷ replicate (length ys) []) ([] ∷ [])
       ∙ ap (λ (l : List (List Reported)). replicate limit [] ++ ((report19 ∷ []) ∷ l)) (replicate-append-replicate (length ys) 1 [])
 
--- a data byte or F7 is
+-- a data byte or F7 is the one too many
 too-long : (xs : List ℕ) → sevenBit xs ≡ true → limit ≤ length xs + 1 → meaning [] (0xF0 ∷ xs ++ (0xF7 ∷ [])) ≡ dropped (length xs + 1 - limit)
 too-long xs ok h = split (eqb (length xs + 1) limit) equal more
   where

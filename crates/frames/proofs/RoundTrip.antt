@@ -170,7 +170,7 @@ module _ (bytes : List ℕ) (r : Record) (d : Tested bytes r) where
   pub fields-pass : checkedFields (r .command) (r .fields) ≡ gives (fieldsAt (r .command) (r .fields .«has_pattern») (prefixOf (r .command) (r .fields)))
   fields-pass = fit-given (fieldList (r .command) (r .fields .«has_pattern»)) (prefixOf (r .command) (r .fields)) 0 _ fields-fit
 
--- a message that the reader gives is written as the bytes that it was read from, wherever they fit; and so it reads back as itself
+-- what the reader gives as plain fields is written as the bytes that it was read from, wherever they fit
 pub written-again : (bytes : List ℕ) (r : Record) (room : ℕ) → readRecord bytes ≡ gives r → length bytes < 2 ^ 64 → length bytes ≤ room
     → recordWrite (r .device) (codeOf (r .command)) (r .fields) (runOf bytes) room ≡ gives bytes
 written-again bytes r room e real fits =

@@ -25,14 +25,14 @@ unfolding readRecord
 pattern-without-version = refl
 
 -- a pattern dump to unit 0, version 7, with n bytes 00 after v
-abbrev pub patternOf : ℕ → List ℕ
-patternOf n = 0xF0 ∷ 0x00 ∷ 0x20 ∷ 0x32 ∷ 0x20 ∷ 0x00 ∷ 0x08 ∷ 0x07 ∷ replicate n 0 ++ (0xF7 ∷ [])
+abbrev pub patternDump : ℕ → List ℕ
+patternDump n = 0xF0 ∷ 0x00 ∷ 0x20 ∷ 0x32 ∷ 0x20 ∷ 0x00 ∷ 0x08 ∷ 0x07 ∷ replicate n 0 ++ (0xF7 ∷ [])
 
 -- "else prefix plus 8 per started 7 raw (pattern 81)": after v no byte, one below the shortest run, one above the longest; expected
 -- 81 each time, found with the version
 pub pattern-of-wrong-length :
-    (parsed (patternOf 0) ≡ refused 7 (0x08 ∷ 81 ∷ 1 ∷ []))
-    × (parsed (patternOf 74) ≡ refused 7 (0x08 ∷ 81 ∷ 75 ∷ []))
-    × (parsed (patternOf 84) ≡ refused 7 (0x08 ∷ 81 ∷ 85 ∷ []))
+    (parsed (patternDump 0) ≡ refused 7 (0x08 ∷ 81 ∷ 1 ∷ []))
+    × (parsed (patternDump 74) ≡ refused 7 (0x08 ∷ 81 ∷ 75 ∷ []))
+    × (parsed (patternDump 84) ≡ refused 7 (0x08 ∷ 81 ∷ 85 ∷ []))
 unfolding readRecord readRun
 pattern-of-wrong-length = (refl, refl, refl)

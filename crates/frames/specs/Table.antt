@@ -1,5 +1,5 @@
--- The frames of document 01: its row, its list of payloads and its table of run lengths, put together. Nothing here is a reader's test: a
--- frame is described by what it consists of.
+-- The frames of document 01: its row, its list of payloads and its table of run lengths, put together. No order of tests and no rule for
+-- lengths stands here: a frame is described by what it consists of.
 use mathlib.Core.Path.{_≡_}
 use mathlib.Core.Bool.{true}
 use mathlib.Core.List.{List, _++_}

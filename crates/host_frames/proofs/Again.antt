@@ -24,7 +24,7 @@ use Rattle.host_answer.specs.Device.{deviceFrom, everyoneOf}
 use Rattle.host_answer.proofs.Devices.{device-named-again, everyone-is-a-flag}
 use Rattle.host_frames.specs.declared.ReadAnswer.{ReadAnswer}
 use Rattle.host_frames.specs.Frames.{readAnswer}
-use Rattle.host_frames.specs.Sent.{fieldsFrom, patternFlagFits}
+use Rattle.host_frames.specs.Sent.{fieldsFrom, patternFlagFits, FrameSent}
 
 -- a flag told as a number is the flag that the number names
 flag-again : (b : Bool) → eqb (flag b) 1 ≡ b
@@ -73,16 +73,14 @@ module _ (bytes : List ℕ) (r : Record) (e : readRecord bytes ≡ gives r) wher
 pub told-and-sent-again : (bytes : List ℕ) (r : Record) → readRecord bytes ≡ gives r → length bytes < 2 ^ 64
     → (a : ReadAnswer) → a ≡ readAnswer (readRecord bytes) bytes
     → (before afterwards : List ℕ) (answer : Answer) → length bytes ≤ length before
-    → SendsIf (leb (a .everyone) 1 && patternFlagFits (a .command) (a .«has_pattern»))
-    (recordWrite (deviceFrom (a .everyone) (a .unit)) (a .command)
+    → FrameSent (a .everyone) (a .unit) (a .command) (a .«has_pattern»)
     (fieldsFrom (a .free) (a .version) (a .bank) (a .program) (a .last) (a .pattern) (a .«has_pattern») (a .interface) (a .rx) (a .tx))
-    (take (a .«run_len») (drop (a .«run_start») bytes)) (length before))
-    answer before afterwards
+    (take (a .«run_len») (drop (a .«run_start») bytes)) answer before afterwards
     → (answer ≡ answerOf (gives (length bytes))) × (afterwards ≡ bytes ++ drop (length bytes) before)
 told-and-sent-again bytes r e real a told before afterwards answer room sent =
     let flags : flagsTold a ≡ true = ap flagsTold told ∙ flags-name bytes r e in
-    let same : sentAgain a bytes (length before) ≡ gives bytes = ap (λ (x : ReadAnswer). sentAgain x bytes (length before)) told ∙ told-is-written
-    bytes r e (length before) real room in
+    let same : sentAgain a bytes (length before) ≡ gives bytes =
+    ap (λ (x : ReadAnswer). sentAgain x bytes (length before)) told ∙ told-is-written bytes r e (length before) real room in
     let named : SendsIf true (sentAgain a bytes (length before)) answer before afterwards =
     subst (λ (t : Bool). SendsIf t (sentAgain a bytes (length before)) answer before afterwards) flags sent in
     let done : Sends (gives bytes) answer before afterwards = subst (λ (o : Outcome (List ℕ)). Sends o answer before afterwards) same named in

@@ -77,7 +77,7 @@ pub record ToldBytes (a : ReadAnswer) : Type 0 where
   pub program : a .program < 0x80
   pub last : a .last < 0x80
   pub pattern : a .pattern < 0x80
-  pub flag-there : a .«has_pattern» ≤ 1
+  pub flag-fits : a .«has_pattern» ≤ 1
   pub interface : a .interface < 0x80
   pub rx : a .rx < 0x80
   pub tx : a .tx < 0x80

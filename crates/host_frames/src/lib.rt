@@ -1,15 +1,10 @@
 // The C entry points of frames: read, measured and written.
 ghost use Rattle.frame_reader.specs.Reader.{readRecord};
-ghost use Rattle.frame_writer.specs.Writer.{recordWrite};
-ghost use Rattle.host_answer.specs.Answer.{answerOf, noRecord, SendsIf};
-ghost use Rattle.host_answer.specs.Device.{deviceFrom};
+ghost use Rattle.host_answer.specs.Answer.{answerOf, noRecord};
 ghost use Rattle.host_frames.specs.Frames.{frameNumbers, readAnswer};
-ghost use Rattle.host_frames.specs.Sent.{fieldsFrom, lengthAsked, patternFlagFits};
+ghost use Rattle.host_frames.specs.Sent.{fieldsFrom, lengthAsked, patternFlagFits, FrameSent};
 ghost use Rattle.laws.specs.Choice.{pick};
 ghost use Rattle.refusal.specs.Outcome.{refusal};
-ghost use lib.Dec.{leb};
-ghost use lib.ListN.{length};
-ghost use mathlib.Core.Bool.{_&&_};
 ghost use mathlib.Core.List.{[]};
 ghost use mathlib.Core.Path.{_≡_};
 use command::Command;
@@ -179,7 +174,7 @@ pub extern "C" fn dm_frame_write(
     run: &[u8],
     out: &mut [u8],
 ) -> Answer
-    ensures { λ r. ⌜ SendsIf (leb everyone 1 && patternFlagFits command «has_pattern») (recordWrite (deviceFrom everyone unit) command (fieldsFrom free version bank program last pattern «has_pattern» interface rx tx) (now (run .entry)) (length (now (out .entry)))) r (now (out .entry)) (now (out .exit)) ⌝ }
+    ensures { λ r. ⌜ FrameSent everyone unit command «has_pattern» (fieldsFrom free version bank program last pattern «has_pattern» interface rx tx) (now (run .entry)) r (now (out .entry)) (now (out .exit)) ⌝ }
 {
     if 1 < everyone {
         return host_answer::no_record();

@@ -26,7 +26,7 @@ pub struct HeldAnswer {
 pub extern "C" fn dm_held_fresh(keys: &mut [u8]) -> Answer
     ensures { λ r. ⌜ Sends (freshWrite (now (keys .entry))) r (now (keys .entry)) (now (keys .exit)) ⌝ }
 {
-    if keys.len() != held_keys::bytes::HELD_LEN {
+    if keys.len() != HELD_LEN {
         return host_answer::refused(Refusal::BadStore);
     }
     held_keys::bytes::put_keys(held_keys::new(), keys);

@@ -16,7 +16,7 @@ use Rattle.host_answer.specs.Answer.{answerOf, Sends, SendsIf}
 use Rattle.host_answer.specs.Device.{deviceFrom, everyoneOf}
 use Rattle.host_answer.proofs.Devices.{device-named-again, everyone-is-a-flag}
 use Rattle.host_inquiry.specs.declared.RequestAnswer.{RequestAnswer}
-use Rattle.host_inquiry.specs.Identity.{requestAnswer}
+use Rattle.host_inquiry.specs.Identity.{requestAnswer, RequestSent}
 
 -- what dm_request_write is asked to write where it is handed what was told
 abbrev requestAgain : RequestAnswer → ℕ → Outcome (List ℕ)
@@ -39,7 +39,7 @@ module _ (bytes : List ℕ) (d : DeviceId) (e : readRequest bytes ≡ gives d) w
 pub request-told-and-sent-again : (bytes : List ℕ) (d : DeviceId) → readRequest bytes ≡ gives d
     → (a : RequestAnswer) → a ≡ requestAnswer (readRequest bytes)
     → (before afterwards : List ℕ) (answer : Answer) → length bytes ≤ length before
-    → SendsIf (leb (a .everyone) 1) (requestWrite (deviceFrom (a .everyone) (a .unit)) (length before)) answer before afterwards
+    → RequestSent (a .everyone) (a .unit) answer before afterwards
     → (answer ≡ answerOf (gives (length bytes))) × (afterwards ≡ bytes ++ drop (length bytes) before)
 request-told-and-sent-again bytes d e a told before afterwards answer room sent =
     let flags : leb (a .everyone) 1 ≡ true = ap (λ (x : RequestAnswer). leb (x .everyone) 1) told ∙ flag-names bytes d e in

@@ -1,10 +1,14 @@
 -- The inquiry's messages at the boundary: what a request or a reply tells, in plain numbers.
 use mathlib.Core.List.{List}
 use Prim.Native.Nat.{ℕ}
-use lib.ListN.{getD}
+use lib.Dec.{leb}
+use lib.ListN.{length, getD}
 use Rattle.refusal.specs.Outcome.{Outcome, gives, refused}
 use Rattle.ids.specs.declared.device.DeviceId.{DeviceId}
+use Rattle.host_answer.specs.declared.Answer.{Answer}
+use Rattle.host_answer.specs.Answer.{SendsIf}
 use Rattle.host_answer.specs.Device.{everyoneOf, unitOf, deviceFrom}
+use Rattle.inquiry.specs.Request.{requestWrite}
 use Rattle.inquiry.specs.declared.identity.Identity.{Identity}
 use Rattle.host_inquiry.specs.declared.RequestAnswer.{RequestAnswer}
 use Rattle.host_inquiry.specs.declared.ReplyAnswer.{ReplyAnswer}
@@ -34,3 +38,8 @@ replyAnswer (refused n values) =
 abbrev pub identityFrom : ℕ → ℕ → ℕ → ℕ → ℕ → ℕ → Identity
 identityFrom everyone unit major minor voiceMajor voiceMinor =
     record { device = deviceFrom everyone unit; firmware = record { major = major; minor = minor }; voice = record { major = voiceMajor; minor = voiceMinor } }
+
+-- the whole of what dm_request_write does with its numbers and the lent buffer: no record names its flag, or it is the writer of requests
+abbrev pub RequestSent : ℕ → ℕ → Answer → List ℕ → List ℕ → Type 0
+RequestSent everyone unit answer before afterwards =
+    SendsIf (leb everyone 1) (requestWrite (deviceFrom everyone unit) (length before)) answer before afterwards

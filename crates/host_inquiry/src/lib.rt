@@ -3,10 +3,9 @@ ghost use mathlib.Core.Path.{_≡_};
 ghost use lib.Dec.{leb};
 ghost use lib.ListN.{length};
 ghost use Rattle.host_answer.specs.Answer.{SendsIf};
-ghost use Rattle.host_answer.specs.Device.{deviceFrom};
-ghost use Rattle.inquiry.specs.Request.{readRequest, requestWrite};
+ghost use Rattle.inquiry.specs.Request.{readRequest};
 ghost use Rattle.inquiry.specs.Reply.{readReply, replyWrite};
-ghost use Rattle.host_inquiry.specs.Identity.{requestAnswer, replyAnswer, identityFrom};
+ghost use Rattle.host_inquiry.specs.Identity.{requestAnswer, replyAnswer, identityFrom, RequestSent};
 use host_answer::Answer;
 use ids::DeviceAnswer;
 use inquiry::Identity;
@@ -98,7 +97,7 @@ pub extern "C" fn dm_reply_read(bytes: &[u8]) -> ReplyAnswer
 // Writes a request. NO_RECORD for everyone above 1; then refuses 5, 14.
 #[no_mangle]
 pub extern "C" fn dm_request_write(everyone: u8, unit: u8, out: &mut [u8]) -> Answer
-    ensures { λ r. ⌜ SendsIf (leb everyone 1) (requestWrite (deviceFrom everyone unit) (length (now (out .entry)))) r (now (out .entry)) (now (out .exit)) ⌝ }
+    ensures { λ r. ⌜ RequestSent everyone unit r (now (out .entry)) (now (out .exit)) ⌝ }
 {
     if 1 < everyone {
         return host_answer::no_record();

@@ -1,5 +1,5 @@
-// The identity inquiry that every MIDI maker shares: a request is six bytes and names only a device; a reply says which model answers, and with
-// which firmware.
+// The identity inquiry that every MIDI maker shares: a request is six bytes and names only a device; a reply says that a DeepMind
+// answers, and with which firmware.
 pub mod identity;
 pub mod reply;
 pub mod request;

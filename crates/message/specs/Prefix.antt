@@ -93,7 +93,7 @@ fieldFits y.receive b = true
 fieldFits y.transmit b = true
 fieldFits y.interface b = ltb b 3
 
--- and the number of its refusal; three kinds take any byte
+-- the number of a field's refusal; three kinds take any byte and have none
 abbrev pub fieldRefusal : Field → ℕ
 fieldRefusal y.free = 0
 fieldRefusal y.version = 8

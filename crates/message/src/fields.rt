@@ -52,7 +52,7 @@ pub fn request_fields(bank: u8, program: u8, last: u8, pattern: u8) -> Fields
     }
 }
 
-// The fields of a dump.
+// The fields of a dump other than a pattern's.
 pub fn dump_fields(version: u8, bank: u8, program: u8) -> Fields
     ensures { λ r. ⌜ r ≡ dumpFields version bank program ⌝ }
 {

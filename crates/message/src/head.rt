@@ -8,7 +8,6 @@ use crate::fields::notify_fields;
 use crate::fields::pattern_fields;
 use crate::fields::request_fields;
 use crate::prefix::FieldsAnswer;
-use crate::prefix::carries_run;
 use crate::prefix::check;
 use command::Command;
 use command::CommandAnswer;
@@ -346,7 +345,7 @@ impl Head {
     pub fn version(self) -> MaybeVersion
         ensures { λ r. ⌜ r ≡ versionOfHead self ⌝ }
     {
-        if carries_run(self.command()) {
+        if self.command().carries_run() {
             return MaybeVersion::Some(ProtocolVersion(self.to_fields().version));
         }
         MaybeVersion::None

@@ -28,13 +28,6 @@ pub struct Prefix {
     pub bytes: [u8; 5],
 }
 
-// Does a message of this command end with a packed run?
-pub fn carries_run(command: Command) -> bool
-    ensures { λ r. ⌜ r ≡ carriesRun command ⌝ }
-{
-    command.carries_run()
-}
-
 // The fields of a payload by the first five of its bytes, with a pattern's number or without.
 pub fn fields_at(command: Command, a: u8, b: u8, d: u8, e: u8, f: u8, numbered: bool) -> Fields
     ensures { λ r. ⌜ r ≡ fieldsAt command numbered (a ∷ b ∷ d ∷ e ∷ f ∷ []) ⌝ }
@@ -169,7 +162,7 @@ pub fn check(command: Command, fields: Fields) -> FieldsAnswer
         bytes[4],
         fields.has_pattern,
     );
-    if carries_run(command) {
+    if command.carries_run() {
         return match ProtocolVersion::new(own.version) {
             VersionAnswer::Err(e) => FieldsAnswer::Err(e),
             VersionAnswer::Ok(_) => check_small(own),

@@ -55,7 +55,7 @@ unpackedByte run k = rawByte run (8 * (k / 7)) (k % 7)
 abbrev pub unpacked : List ℕ → List ℕ
 unpacked run = tab (unpackedByte run) (unpackedLength (length run))
 
--- the writers: packing 22, then 14; unpacking 13, then 14
+-- packing: "22, then 14"
 abbrev pub packWrite : List ℕ → ℕ → Outcome (List ℕ)
 packWrite raw room = andThen (packedLengthOf (length raw)) (λ n. withRoom room (packed raw))
 

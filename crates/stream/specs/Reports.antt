@@ -30,7 +30,7 @@ commonStatusOf (y.SongPosition p) = 0xF2
 commonStatusOf (y.SongSelect v) = 0xF3
 commonStatusOf y.TuneRequest = 0xF6
 
--- its status byte, where it has one
+-- a report's status byte, where it has one
 abbrev pub reportStatus : Report → ℕ
 reportStatus (r.Channel c x) = statusNibble x + c .0
 reportStatus (r.SysEx n) = 0
@@ -49,7 +49,7 @@ messageFirst (m.ProgramChange p) = p
 messageFirst (m.ChannelPressure p) = p
 messageFirst (m.PitchBend v) = v
 
--- its second data byte; 0 where it has none, and for a bend
+-- a channel message's second data byte; 0 where it has none, and for a bend
 abbrev pub messageSecond : ChannelMessage → ℕ
 messageSecond (m.NoteOff k v) = v
 messageSecond (m.NoteOn k v) = v
@@ -66,7 +66,7 @@ commonValue (y.SongPosition p) = p
 commonValue (y.SongSelect v) = v
 commonValue y.TuneRequest = 0
 
--- its first number: data, a bend, a value, a frame's length, or 19's limit
+-- a report's first number: data, a bend, a value, a frame's length, or 19's limit
 abbrev pub reportFirst : Report → ℕ
 reportFirst (r.Channel c x) = messageFirst x
 reportFirst (r.SysEx n) = n
@@ -75,7 +75,7 @@ reportFirst (r.Realtime x) = 0
 reportFirst r.SysExInterrupted = 0
 reportFirst (r.SysExTooLong n) = n
 
--- its second number: a channel message's second data byte, else 0
+-- a report's second number: a channel message's second data byte, else 0
 abbrev pub reportSecond : Report → ℕ
 reportSecond (r.Channel c x) = messageSecond x
 reportSecond (r.SysEx n) = 0

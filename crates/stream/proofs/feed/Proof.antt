@@ -63,10 +63,7 @@ same-length-2 c = search needs
 
 returns-3 : tie.Need-returns-3
 returns-3 c =
-    let before-there = c .before .before .before .before .before .before .before .before .before .before .before .before .before .before .before .before .before in
-    let before = c .before .before .before .before .before .before .before .before .before .before .before .before .before .before .before in
-    let slice-known = before
-    .before .before .before .before .before .slice-known in
+    let slice-known = c .before .before .before .before .before .before .before .before .before .before .before .before .before .before .before .before .before .before .before .before .slice-known in
     let if2 = c .before .before .before .before .before .before .before .before .before .before .before .before .before .before .before .before .if2 in
     let if1 = c .before .before .before .before .before .before .before .before .before .before .before .before .before .before .before .before .before .if1 in
     let front-of = c .before .before .before .before .before .before .before .before .before .before .before .before .before .before .front-of in
@@ -75,8 +72,7 @@ returns-3 c =
     let takes = c .before .before .before .before .before .before .before .before .takes in
     let if3 = c .before .before .before .before .before .before .before .if3 in
     let walk = c .before .before .before .before .walk in
-    let a = before-there
-    .before .before .before .before .args in
+    let a = c .before .before .before .before .before .before .before .before .before .before .before .before .before .before .before .before .before .before .before .before .before .args in
     let small : (i : ℕ) → getD (a .state .now) i 0 < 256 = λ i. omega (arith, slice-known .given i) in
     let room : limit ≤ length (a .store .now) = omega (arith, if2 .left, limit-is) in
     walked-so (a .state .now) (a .store .now) (a .bytes .now) _ _ _ _
