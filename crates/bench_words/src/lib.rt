@@ -1,4 +1,6 @@
 // The bench's words over the proved crates: a request's text in, the answer's text out.
+#![tactic(auto)]
+
 pub mod line;
 pub mod said;
 pub mod small;

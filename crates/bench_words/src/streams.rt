@@ -4,7 +4,7 @@ use decoder::{Decoder, Fed, FeedAnswer, MaybeReport, Report};
 use wire::{Channel, ChannelMessage, SystemCommon};
 
 // How far a stream has come: the decoder's state, the end of the text so far, and the place of the next byte.
-#[derive(Drop)]
+#[derive(Clone, Copy)]
 struct Told {
     state: Decoder,
     at: usize,

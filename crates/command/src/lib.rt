@@ -1,4 +1,6 @@
 // The 22 commands of a frame, and the table of their payloads.
+#![tactic(auto)]
+
 ghost use Rattle.std.specs.Prelude.{◌≡◌};
 ghost use Rattle.command.specs.Command.{code_of, command_of, command_told};
 ghost use Rattle.command.specs.Payload.{direction_of, is_run, payload_of, row_of, raw_length_for};
@@ -16,7 +18,7 @@ pub enum Direction {
     FromDevice,
 }
 
-#[derive(Drop)]
+#[derive(Clone, Copy)]
 pub enum Command {
     // 00: tells the synthesizer that a control application is there
     ControlAppNotifyRequest,
@@ -72,7 +74,7 @@ pub enum CommandAnswer {
 
 // A command's code, how many payload bytes stand ahead of its packed run (all of them where it has none), and how many raw bytes the
 // run holds: 0 where the version decides, where any number may stand, and where there is no run. A pattern's number is not counted.
-#[derive(Drop)]
+#[derive(Clone, Copy)]
 pub struct Row {
     pub code: u8,
     pub prefix_len: usize,

@@ -2,6 +2,8 @@
 // Three things are awkward about a MIDI cable. A status byte may be left out where it is that of the message before (running status), so what a data
 // byte means hangs on bytes long gone. A real-time byte may stand between any two bytes, inside a message or a frame, and must disturb neither. And
 // a read may end anywhere, so whatever is half read has to be kept until the next call; here the caller keeps it.
+#![tactic(auto)]
+
 ghost use Rattle.std.specs.Prelude.{◌≡◌, ◌≤◌, ◌<◌, length};
 ghost use Rattle.decoder.specs.State.{limit, no_status, waits_soundly, sound, cleared, fresh, reset};
 ghost use Rattle.decoder.specs.Step.{step, stored, opened, holding, longer, waiting, completed, collect};
@@ -17,14 +19,14 @@ use wire::{Channel, ChannelMessage, Realtime, SystemCommon};
 pub const MAX_SYSEX_LEN: usize = 2354;
 
 // The status byte in force, where there is one.
-#[derive(Drop)]
+#[derive(Clone, Copy)]
 pub enum RunningStatus {
     None,
     Status(u8),
 }
 
 // What the decoder keeps between two bytes. The bytes of an open frame lie in the lent store.
-#[derive(Drop)]
+#[derive(Clone, Copy)]
 pub struct Decoder {
     // bytes of the open frame so far
     pub len: usize,
@@ -56,7 +58,7 @@ pub enum Class {
     Realtime,
 }
 
-#[derive(Drop)]
+#[derive(Clone, Copy)]
 pub enum Report {
     Channel {
         channel: Channel,
@@ -71,14 +73,14 @@ pub enum Report {
     SysExTooLong(usize),
 }
 
-#[derive(Drop)]
+#[derive(Clone, Copy)]
 pub enum MaybeReport {
     None,
     Some(Report),
 }
 
 // What one byte does to the state, and what it reports: SysExInterrupted first, where it broke off a frame, then its own effect.
-#[derive(Drop)]
+#[derive(Clone, Copy)]
 pub struct Stepped {
     pub state: Decoder,
     pub interrupted: bool,

@@ -1,4 +1,6 @@
 // The decoder with its state changed in place: thin calls over the calls that take the state by value.
+#![tactic(auto)]
+
 ghost use Rattle.std.specs.Prelude.{◌≡◌};
 ghost use Rattle.decoder.specs.State.{reset};
 ghost use Rattle.decoder.specs.Call.{call};

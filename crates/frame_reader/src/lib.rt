@@ -1,4 +1,6 @@
 // Reads a frame, F0 to F7: whom it is for, what it says, and where its packed run lies.
+#![tactic(auto)]
+
 ghost use Rattle.std.specs.Prelude.{◌≡◌, ◌+◌, ◌-◌, ◌≤◌, length};
 ghost use Rattle.laws.specs.Choice.{pick};
 ghost use Rattle.message.specs.Prefix.{carries_run, field_list};
@@ -13,7 +15,7 @@ use message::{Fields, FieldsAnswer, Frame, FrameAnswer, Head};
 use refusal::Refusal;
 
 // What a frame says as plain fields; its run lies beside it, in the caller's bytes.
-#[derive(Drop)]
+#[derive(Clone, Copy)]
 pub struct Record {
     pub device: DeviceId,
     pub command: Command,

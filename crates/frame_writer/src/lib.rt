@@ -1,4 +1,6 @@
 // Writes a frame, F0 to F7, from a message or from plain fields, beside the caller's packed run.
+#![tactic(auto)]
+
 ghost use Rattle.std.specs.Prelude.{◌≡◌, ◌++◌, ◌+◌, ◌≤◌, length, drop};
 ghost use Rattle.laws.specs.Choice.{pick};
 ghost use Rattle.message.specs.Prefix.{carries_run};

@@ -1,1 +1,3 @@
 // Theorems about frames as they are read and written; no code of its own.
+#![tactic(auto)]
+

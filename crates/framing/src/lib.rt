@@ -1,4 +1,6 @@
 // What frames and identity messages share: F0 and F7 at the ends, bytes below 80 between them, maker and model.
+#![tactic(auto)]
+
 ghost use Rattle.std.specs.Prelude.{◌≡◌};
 ghost use Rattle.ids.specs.Device.{device_in_range};
 ghost use Rattle.framing.specs.Framing.{framed, first_high, same_bytes};

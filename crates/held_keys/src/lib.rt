@@ -1,4 +1,6 @@
 // Which keys are held down on which channel.
+#![tactic(auto)]
+
 ghost use Rattle.std.specs.Prelude.{◌≡◌, true, false, ℕ, ◌%◌, ◌<◌, eqb};
 ghost use Rattle.refusal.specs.Outcome.{counted};
 ghost use Rattle.laws.specs.Choice.{pick};

@@ -1,4 +1,6 @@
 // What an entry point answers in plain numbers: done with a value, refused with document 01's number and details, or no record.
+#![tactic(auto)]
+
 ghost use Rattle.std.specs.Prelude.{◌≡◌};
 ghost use Rattle.refusal.specs.Outcome.{gives, counted, refusal};
 ghost use Rattle.host_answer.specs.Answer.{answer_of, no_record};

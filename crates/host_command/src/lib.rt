@@ -1,4 +1,6 @@
 // The C entry point of commands.
+#![tactic(auto)]
+
 ghost use Rattle.std.specs.Prelude.{◌≡◌};
 ghost use Rattle.refusal.specs.Outcome.{gives, and_then};
 ghost use Rattle.command.specs.Command.{command_of, code_of};

@@ -1,4 +1,6 @@
 // The C entry points of frames: read, measured and written.
+#![tactic(auto)]
+
 ghost use Rattle.frame_reader.specs.Reader.{read_record};
 ghost use Rattle.host_answer.specs.Answer.{answer_of, no_record};
 ghost use Rattle.host_frames.specs.Frames.{frame_numbers, read_answer};

@@ -1,4 +1,6 @@
 // The C entry points of the held keys. The record crosses as HELD_LEN bytes that the caller keeps; every content of them is a record.
+#![tactic(auto)]
+
 ghost use Rattle.std.specs.Prelude.{◌≡◌};
 ghost use Rattle.host_answer.specs.Answer.{answer_of, Sends};
 ghost use Rattle.wire.specs.ChannelMessage.{channel_kind};

@@ -1,4 +1,6 @@
 // The small numbers, each from a byte: the number inside, or the refusal.
+#![tactic(auto)]
+
 ghost use Rattle.std.specs.Prelude.{◌≡◌};
 ghost use Rattle.ids.specs.Interface.{interface_of, interface_byte};
 ghost use Rattle.ids.specs.Device.{device_of, device_byte};

@@ -1,4 +1,6 @@
 // The C entry points of the device inquiry.
+#![tactic(auto)]
+
 ghost use Rattle.std.specs.Prelude.{◌≡◌, leb, length};
 ghost use Rattle.host_answer.specs.Answer.{SendsIf};
 ghost use Rattle.inquiry.specs.Request.{read_request};

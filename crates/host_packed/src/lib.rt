@@ -1,4 +1,6 @@
 // Packed runs.
+#![tactic(auto)]
+
 ghost use Rattle.std.specs.Prelude.{◌≡◌, length};
 ghost use Rattle.packed.specs.Packed.{packed_length_of, unpacked_length_of, pack_write, unpack_write};
 ghost use Rattle.host_answer.specs.Answer.{answer_of, Sends};

@@ -1,5 +1,7 @@
 // The C entry points of the stream decoder. Its state crosses as STATE_LEN bytes that the caller keeps, and its store as bytes that the caller
 // lends at every call.
+#![tactic(auto)]
+
 ghost use Rattle.std.specs.Prelude.{◌≡◌};
 ghost use Rattle.decoder.specs.State.{limit, fresh};
 ghost use Rattle.host_answer.specs.Answer.{answer_of, Sends};

@@ -1,4 +1,6 @@
 // Channel, system common and real-time messages on the wire.
+#![tactic(auto)]
+
 ghost use Rattle.std.specs.Prelude.{◌≡◌, length};
 ghost use Rattle.refusal.specs.Outcome.{gives, and_then};
 ghost use Rattle.wire.specs.Channel.{channel_of};

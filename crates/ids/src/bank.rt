@@ -6,7 +6,7 @@ use refusal::Refusal;
 
 pub const BANK_COUNT: u8 = 8;
 
-#[derive(Drop)]
+#[derive(Clone, Copy)]
 pub struct Bank(pub u8);
 
 #[derive(Drop)]

@@ -5,7 +5,7 @@ ghost use Rattle.ids.specs.Device.{device_of, device_byte, device_told, reaches}
 use refusal::Refusal;
 
 // Whom a frame is for: one unit, or everyone.
-#[derive(Drop)]
+#[derive(Clone, Copy)]
 pub enum DeviceId {
     Unit(u8),
     Broadcast,

@@ -5,7 +5,7 @@ ghost use Rattle.ids.specs.Interface.{interface_of, interface_told, interface_by
 use refusal::Refusal;
 
 // The three MIDI ports of the synthesizer.
-#[derive(Drop)]
+#[derive(Clone, Copy)]
 pub enum Interface {
     Midi,
     Usb,

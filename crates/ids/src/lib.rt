@@ -1,5 +1,7 @@
 // The small numbers and names that every frame is made of: each is made from a byte by a call that refuses what is out of range.
 // A value made by hand may still hold any byte, so whoever writes one to the wire tests it again.
+#![tactic(auto)]
+
 pub mod bank;
 pub mod device;
 pub mod interface;

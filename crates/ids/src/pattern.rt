@@ -6,7 +6,7 @@ use refusal::Refusal;
 
 pub const USER_PATTERN_COUNT: u8 = 32;
 
-#[derive(Drop)]
+#[derive(Clone, Copy)]
 pub struct PatternNumber(pub u8);
 
 #[derive(Drop)]

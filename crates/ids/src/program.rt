@@ -6,7 +6,7 @@ use refusal::Refusal;
 
 pub const PROGRAMS_PER_BANK: u8 = 128;
 
-#[derive(Drop)]
+#[derive(Clone, Copy)]
 pub struct ProgramNumber(pub u8);
 
 #[derive(Drop)]

@@ -5,7 +5,7 @@ ghost use Rattle.ids.specs.Version.{version_of, program_data_length, version_tol
 use refusal::Refusal;
 
 // The protocol version that a dump carries.
-#[derive(Drop)]
+#[derive(Clone, Copy)]
 pub struct ProtocolVersion(pub u8);
 
 #[derive(Drop)]

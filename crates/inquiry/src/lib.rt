@@ -1,5 +1,7 @@
 // The identity inquiry that every MIDI maker shares: a request is six bytes and names only a device; a reply says that a DeepMind
 // answers, and with which firmware.
+#![tactic(auto)]
+
 pub mod identity;
 pub mod reply;
 pub mod request;

@@ -3,7 +3,7 @@ ghost use Rattle.std.specs.Prelude.{◌≡◌};
 ghost use Rattle.message.specs.Fields.{free_fields, request_fields, dump_fields, pattern_fields, notify_fields};
 
 // Every field that a message can have, as plain numbers; what a message lacks is 0.
-#[derive(Drop)]
+#[derive(Clone, Copy)]
 pub struct Fields {
     pub free: u8,
     pub version: u8,

@@ -11,7 +11,7 @@ use ids::{Bank, DeviceId, Interface, PatternNumber, ProgramNumber, ProtocolVersi
 use refusal::Refusal;
 
 // The number of a stored pattern; the one being edited has none.
-#[derive(Drop)]
+#[derive(Clone, Copy)]
 pub enum MaybePattern {
     Some(PatternNumber),
     None,
@@ -25,7 +25,7 @@ pub enum MaybeVersion {
 }
 
 // What a frame says, but for its packed run.
-#[derive(Drop)]
+#[derive(Clone, Copy)]
 pub enum Head {
     // 00: tells the synthesizer that a control application is there
     ControlAppNotifyRequest {

@@ -1,4 +1,6 @@
 // The 22 messages of a frame, with the types of their fields.
+#![tactic(auto)]
+
 pub mod fields;
 pub mod head;
 pub mod prefix;

@@ -1,11 +1,13 @@
 // Shows MIDI bytes, a line for each report: the place of the byte that gave it, the message's bytes, and what they say. The bytes come from
 // standard input or from a file, in pieces. What goes wrong is said on standard error: a program of this kit has no exit status of its own.
+#![tactic(auto)]
+
 use decoder::{Decoder, MaybeReport, Report};
 use decoder_in_place::by_value::{TakeAnswer, Taken};
 use libc::{STDERR_FILENO, STDIN_FILENO, STDOUT_FILENO};
 
 // How far the stream has come: the decoder's state, the bytes of the pieces before, and the next byte of this piece.
-#[derive(Drop)]
+#[derive(Clone, Copy)]
 struct Seen {
     state: Decoder,
     before: u64,

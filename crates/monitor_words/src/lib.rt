@@ -1,4 +1,6 @@
 // What a report says, in words that a technician reads.
+#![tactic(auto)]
+
 pub mod frame;
 pub mod short;
 

@@ -1,4 +1,6 @@
 // The byte at a place, a flag as a byte, whole words, runs of data bytes, copies: what everything above needs, said once.
+#![tactic(auto)]
+
 ghost use Rattle.std.specs.Prelude.{◌≡◌, get_or};
 ghost use Rattle.laws.specs.Choice.{flag};
 

@@ -1,6 +1,8 @@
 // Eight-bit data in seven-bit bytes, seven raw bytes in eight on the wire: how long each is.
 // What is awkward: a last group that is not full may be sent padded or cut short, and a padded run does not say how many raw bytes were meant. We
 // write padded runs and read both; who reads a dump knows its raw length from the command and the version.
+#![tactic(auto)]
+
 ghost use Rattle.std.specs.Prelude.{◌≡◌};
 ghost use Rattle.refusal.specs.Outcome.{counted};
 ghost use Rattle.packed.specs.Packed.{packed_length_of, unpacked_length_of};

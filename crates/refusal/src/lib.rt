@@ -1,8 +1,10 @@
 // The refusal table of document 01: why a call turned its input down, with the details that the table names.
+#![tactic(auto)]
+
 ghost use Rattle.std.specs.Prelude.{◌≡◌};
 ghost use Rattle.refusal.specs.Refusal.{number_of};
 
-#[derive(Drop)]
+#[derive(Clone, Copy)]
 pub enum Refusal {
     Unframed,
     NotSevenBit(u8),

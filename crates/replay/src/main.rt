@@ -1,6 +1,8 @@
 // Replays recorded answers of the original Rust against the proved crates. Each file that an argument names has a record a line: a request,
 // a tab, and the answer that the original gave. For each word a line is written, and for its first difference what was got and what was
 // recorded; a line under the file's name counts all. A program of this kit has no other way to say how it ended.
+#![tactic(auto)]
+
 use libc::{STDERR_FILENO, STDOUT_FILENO};
 
 // Where a tally counts differences: so many places behind the count of the same word.

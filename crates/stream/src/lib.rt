@@ -1,6 +1,8 @@
 // The stream decoder that every host runs: `Decoder::feed` on a state kept as STATE_LEN bytes, with the store lent, answered in plain numbers.
 // A call reads the state as numbers once. Outside a frame it goes by the status in force, what is pending and the first data byte; in a frame
 // it moves whole runs of data bytes to the store. It writes back the frame's length, or what waits and the data bytes.
+#![tactic(auto)]
+
 ghost use Rattle.stream.specs.Feed.{feed_call, StreamFed};
 
 mod answer;

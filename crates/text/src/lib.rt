@@ -1,5 +1,7 @@
 // Text put into a lent buffer piece by piece: each call answers where the next piece goes. What has no room is left out.
 // A list of names is one text, with a bar between two names.
+#![tactic(auto)]
+
 
 pub mod refusals;
 

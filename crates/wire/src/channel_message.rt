@@ -13,7 +13,7 @@ pub enum MaybeLen {
     None,
 }
 
-#[derive(Drop)]
+#[derive(Clone, Copy)]
 pub enum ChannelMessage {
     NoteOff { key: u8, velocity: u8 },
     NoteOn { key: u8, velocity: u8 },

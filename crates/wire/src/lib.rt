@@ -1,5 +1,7 @@
 // What the MIDI messages on the wire share: channels, how many data bytes a status byte takes, fourteen bits from two bytes, and
 // the writing of one to three bytes.
+#![tactic(auto)]
+
 ghost use Rattle.std.specs.Prelude.{◌≡◌, [], ◌∷◌, ◌+◌, ◌*◌, ◌≤◌, length, take};
 ghost use Rattle.refusal.specs.Outcome.{Writes, with_room};
 ghost use Rattle.wire.specs.Status.{data_length};
@@ -21,7 +23,7 @@ pub const SYSEX_END: u8 = 0xF7;
 pub const CHANNEL_COUNT: u8 = 16;
 
 // A MIDI channel as it stands on the wire, 0 to 15.
-#[derive(Drop)]
+#[derive(Clone, Copy)]
 pub struct Channel(pub u8);
 
 #[derive(Drop)]

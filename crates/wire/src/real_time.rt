@@ -6,7 +6,7 @@ ghost use Rattle.wire.specs.RealTime.{realtime_byte, realtime_of, realtime_write
 use refusal::Count;
 
 // The real-time messages that a record names.
-#[derive(Drop)]
+#[derive(Clone, Copy)]
 pub enum Realtime {
     Clock,
     Start,

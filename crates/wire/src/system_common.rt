@@ -7,7 +7,7 @@ ghost use Rattle.wire.specs.SystemCommon.{common_status, common_status_byte, com
 use refusal::{Count, Refusal};
 
 // The system common messages that a record names.
-#[derive(Drop)]
+#[derive(Clone, Copy)]
 pub enum SystemCommon {
     TimeCodeQuarterFrame(u8),
     SongPosition(u16),
@@ -39,7 +39,7 @@ impl SystemCommon {
 }
 
 // Their status bytes: F1, F2, F3 and F6.
-#[derive(Drop)]
+#[derive(Clone, Copy)]
 pub enum CommonStatus {
     TimeCodeQuarterFrame,
     SongPosition,
