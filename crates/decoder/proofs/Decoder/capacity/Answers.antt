@@ -1,0 +1,6 @@
+-- `Decoder::capacity` meets its contract: the code's constant is the limit.
+use Rattle.decoder.proofs.Limit.{limit_is}
+use Rattle.decoder.proofs.Decoder.capacity.Goals as goal
+
+pub returns : goal.returns
+returns c = rw limit_is

@@ -1,0 +1,22 @@
+-- `Decoder::is_sound` meets its contract: its tests are the definition's, in the same order.
+use Rattle.decoder.proofs.Limit.{limit_is}
+use Rattle.decoder.specs.State.{limit}
+use borrow.Author.Tests.{le-leb, lt-leb, ne_eqb, eq-eqb, not-true, not-false}
+use Prim.Native.Nat.{◌≤◌, ◌<◌}
+use native.Mathlib.Omega.{arith}
+use borrow.Author.Rules.{rules}
+use Rattle.decoder.proofs.Decoder.is_sound.Goals as goal
+
+pub returns-then-len-gt-MAX_SYSEX_LEN : goal.returns-then-len-gt-MAX_SYSEX_LEN
+returns-then-len-gt-MAX_SYSEX_LEN c = let a = c.args in
+    let over : limit < a.self.len = omega (arith, limit_is) in
+    rw (c.if-self.true, le-leb 1 _ c.if-len-lt1.false, lt-leb _ limit over)
+
+pub returns-then-self : goal.returns-then-self
+returns-then-self c =
+    let if1 = c.if-self in
+    let if2 = c.if-len-lt1 in
+    let is_none = c.is_none in
+    let a = c.args in
+    let fits : a.self.len ≤ limit = omega (arith, limit_is) in
+    rw (if1.true, le-leb 1 _ if2.false, le-leb _ limit fits, ← is_none.ensures, c.if-not-is_none.false)

@@ -1,0 +1,39 @@
+-- `Decoder::walk` meets its contract. The loop's invariant: the bytes used so far and the walk over the rest are the whole walk.
+use Rattle.decoder.specs.Call.{Walked}
+use borrow.Author.Rules.{rules}
+use Rattle.decoder.proofs.Walking.{Walking, walking_begins, walking_stops, walking_goes_on, walking_ends}
+use Rattle.decoder.proofs.SoundKept.{length_kept}
+use mathlib.Core.Path.{sym, ◌∙◌, ap}
+use lib.ListN.{length}
+use Prim.Native.Nat.{◌-◌}
+use native.Mathlib.Omega.{arith}
+use Rattle.decoder.proofs.Decoder.walk.Goals as goal
+
+pub returns-then-reports : goal.returns-then-reports
+returns-then-reports c =
+    let loop-test = c.loop-used-test in
+    let a = c.args in
+    let l = c.loop-used in
+    let s = c.step-done in
+    let e = walking_stops a.self a.store.now a.bytes.now l.state l.store l.used l.invariant loop-test.true s.result
+    s.new.store s.ensures.0 s.ensures.1 (sym c.reports.ensures ∙ c.if-reports.true) in
+    record { told = sym (ap (λ (w : Walked). w.fed) e); left = sym (ap (λ (w : Walked). w.store) e) }
+
+pub loop-used-preserved : goal.loop-used-preserved
+loop-used-preserved c =
+    let loop-test = c.loop-used-test in
+    let a = c.args in
+    let l = c.loop-used in
+    let s = c.step-done in
+    walking_goes_on a.self a.store.now a.bytes.now l.state l.store l.used l.invariant loop-test.true s.result s.new.store
+    s.ensures.0 s.ensures.1 (sym c.reports.ensures ∙ c.if-reports.false)
+
+-- NEED? same-length-2
+-- same-length-2 : tie.Need-same-length-2 invariant-loop decreases-loop
+-- same-length-2 c = c.before.loop.invariant.same
+
+pub returns : goal.returns
+returns c = let a = c.args in
+    let l = c.loop-used in
+    let e = walking_ends a.self a.store.now a.bytes.now l.state l.store l.used l.invariant c.loop-used-test.false in
+    record { told = sym (ap (λ (w : Walked). w.fed) e); left = sym (ap (λ (w : Walked). w.store) e) }

@@ -1,0 +1,33 @@
+-- `read_record` meets its contract: framing, then the first high byte, then the rest.
+use Rattle.frame_reader.proofs.Parts.{framed_long, body_part}
+use Rattle.frame_reader.specs.Reader.{read_record}
+use borrow.Author.Tests.{not-true, not-false}
+use native.Mathlib.Omega.{arith}
+use mathlib.Core.Path.{sym, ◌∙◌}
+use borrow.Author.Rules.{rules}
+use Rattle.frame_reader.proofs.read_record.Goals as goal
+
+pub returns-then-not-is_framed : goal.returns-then-not-is_framed
+unfolding read_record
+returns-then-not-is_framed c = rw (sym c.is_framed.ensures ∙ c.if-not-is_framed.true)
+
+pub returns-in-Some : goal.returns-in-Some
+unfolding read_record
+returns-in-Some c =
+    let a = c.args in
+    let is_framed = c.is_framed in
+    let if1 = c.if-not-is_framed in
+    let first-high = c.first_high in
+    let b = a.bytes.now in
+    rw (sym is_framed.ensures ∙ if1.false, ← body_part b, ← first-high.ensures, c.in-Some.is)
+
+pub returns-in-None : goal.returns-in-None
+unfolding read_record
+returns-in-None c =
+    let a = c.args in
+    let is_framed = c.is_framed in
+    let if1 = c.if-not-is_framed in
+    let first-high = c.first_high in
+    let b = a.bytes.now in
+    c.read_header.ensures
+    ∙ rw (sym is_framed.ensures ∙ if1.false, ← body_part b, ← first-high.ensures, c.in-None.is)

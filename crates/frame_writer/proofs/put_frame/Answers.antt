@@ -1,0 +1,16 @@
+-- `put_frame` meets its contract: header, prefix, run and F7, each behind what stands already.
+use Rattle.frame_writer.proofs.Row.{frame_put, length_run}
+use Rattle.frame_writer.specs.Writer.{header}
+use lib.ListN.{length-set}
+use Prim.Native.Nat.{◌-◌}
+use mathlib.Core.Path.{refl}
+use borrow.Author.Rules.{rules}
+use Rattle.frame_writer.proofs.put_frame.Goals as goal
+
+pub returns : goal.returns
+returns c = let a = c.args in
+    let s = c.put_header.new.out in
+    let n = c.copy_into in
+    let m = c.copy_into-2 in
+    frame_put (header a.device a.code) a.prefix.now a.run.now a.out.now s n.new.to m.new.to refl
+    c.requires c.put_header.ensures n.ensures _ refl m.ensures

@@ -1,0 +1,28 @@
+-- `keys_of` meets its contract: before each turn the channels below are those that the bytes say.
+use Rattle.held_keys.proofs.bytes.Filled.{channel_in, channel_stored, channels_all}
+use Rattle.laws.specs.Tabulate.{tab}
+use Rattle.laws.specs.Window.{window}
+use Rattle.laws.proofs.Window.{window_none}
+use lib.ListN.{length, get_or}
+use native.Mathlib.Omega.{arith}
+use Prim.Native.Nat.{ℕ, ◌≤◌, ◌<◌, ◌-◌}
+use mathlib.Core.Path.{◌≡◌, refl, sym}
+use Rattle.held_keys.proofs.bytes.keys_of.Goals as goal
+
+pub loop-channel-preserved : goal.loop-channel-preserved
+loop-channel-preserved c =
+    let a = c.args in
+    let shared-slice-known = c.type_inv.bytes in
+    let loop-test = c.loop-channel-test in
+    let l = c.loop-channel in
+    let b = a.bytes.now in
+    let small : ((i : ℕ) → get_or b i 0 < 256) = λ i. omega (arith, shared-slice-known i) in (
+      omega arith,
+      l.invariant.1,
+      channel_stored b small _ l.keys l.channel _ _ l.invariant.2 (omega (arith, l.invariant.1, loop-test.true))
+          c.word_at.ensures c.word_at-in-loop-channel.ensures,
+    )
+
+pub returns : goal.returns
+returns c = let l = c.loop-channel in
+    channels_all c.args.bytes.now _ l.keys l.channel (omega arith) l.invariant.1 l.invariant.2

@@ -1,0 +1,12 @@
+-- `dm_held_fresh` meets its contract: the length first, then the bytes of a record in which no key is held.
+use Rattle.host_held_keys.proofs.Applied.{fresh_refused, fresh_written}
+use borrow.Author.Rules.{rules}
+use Rattle.host_held_keys.proofs.dm_held_fresh.Goals as goal
+
+pub returns : goal.returns
+returns c =
+    let new = c.new in
+    let if1 = c.if-keys-ne-HELD_LEN in
+    let a = c.args in
+    let p = c.put_keys in
+    fresh_written a.keys.now p.new.bytes new.result c.done.result if1.false new.ensures p.ensures c.done.ensures

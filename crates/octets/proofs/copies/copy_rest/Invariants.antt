@@ -1,0 +1,13 @@
+use Rattle.octets.proofs.copies.Copies.{copied, copied_front, copied_more, copied_all}
+use lib.ListN.{length, length-set}
+use native.Mathlib.Omega.{arith}
+use native.Mathlib.Nat.{add-zero}
+use Prim.Native.Nat.{◌+◌, ◌≤◌, ◌-◌, ◌*◌, ◌/◌, ◌%◌}
+use mathlib.Core.Path.{◌≡◌, refl, ap, sym, ◌∙◌}
+use Rattle.octets.proofs.copies.copy_rest.Given as goal
+
+abbrev pub invariant-loop-i : goal.invariant-loop-i
+invariant-loop-i l = (l.i ≤ l.rest) × (l.at ≡ length l.from / 8 * 8) × (l.rest ≡ length l.from % 8) × (l.to ≡ copied l.from l.initial.to (l.at + l.i)) × (length l.to ≡ length l.initial.to)
+
+abbrev pub decreases-loop-i : goal.decreases-loop-i
+decreases-loop-i l = l.rest - l.i

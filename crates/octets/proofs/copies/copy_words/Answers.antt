@@ -1,0 +1,28 @@
+-- `copy_words` meets its contract: before each turn the first w words are those of from, the others as they were.
+use Rattle.octets.proofs.copies.Copies.{copied, copied_eight}
+use Rattle.octets.proofs.words.Words.{word_stored}
+use lib.ListN.{length, get_or}
+use native.Mathlib.Omega.{arith}
+use Prim.Native.Nat.{ℕ, ◌+◌, ◌≤◌, ◌<◌, ◌-◌, ◌*◌, ◌/◌}
+use mathlib.Core.Path.{◌≡◌, refl, ap, ◌∙◌}
+use Rattle.octets.proofs.copies.copy_words.Goals as goal
+
+pub loop-w-preserved : goal.loop-w-preserved
+loop-w-preserved c =
+    let shared-slice-known = c.type_inv.from in
+    let put_word = c.put_word in
+    let asked = c.requires in
+    let a = c.args in
+    let l = c.loop-w in
+    let bytes : ((i : ℕ) → get_or a.from.now i 0 < 256) = λ i. omega (arith, shared-slice-known i) in
+    let w = c.word_at in (
+      omega arith,
+      l.invariant.1,
+      put_word.ensures ∙ word_stored a.from.now l.to (l.w * 8) (l.w * 8) w.result bytes w.ensures
+          ∙ copied_eight a.from.now a.to.now l.to (l.w * 8) ((l.w + 1) * 8) (omega arith) (omega arith) asked l.invariant.2,
+      omega arith,
+    )
+
+-- NEED? same-length
+-- same_length : tie.Need-same-length invariant-loop decreases-loop
+-- same_length c = c.before.loop.invariant.3

@@ -1,0 +1,23 @@
+-- `data_run` meets its contract: byte by byte behind the words, until the run ends.
+use Rattle.octets.proofs.data_bytes.Runs.{run_within, run_more, run_ends}
+use Rattle.octets.specs.quick.Data.{data_run}
+use native.Mathlib.Omega.{arith}
+use lib.ListN.{length}
+use Prim.Native.Nat.{◌≤◌, ◌-◌}
+use Rattle.octets.proofs.data_bytes.data_run.Goals as goal
+
+pub returns-then-bytes-i-ge128 : goal.returns-then-bytes-i-ge128
+returns-then-bytes-i-ge128 c =
+    let a = c.args in
+    let loop = c.loop-i in
+    run_ends a.bytes.now loop.i loop.invariant c.if-bytes-i-ge128.true
+
+pub loop-i-preserved : goal.loop-i-preserved
+loop-i-preserved c =
+    let a = c.args in
+    let loop = c.loop-i in
+    let loop-test = c.loop-i-test in
+    run_more a.bytes.now loop.i loop.invariant loop-test.true c.if-bytes-i-ge128.false
+
+pub returns : goal.returns
+returns c = omega (arith, run_within c.args.bytes.now, c.loop-i.invariant, c.loop-i-test.false)

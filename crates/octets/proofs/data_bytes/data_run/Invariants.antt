@@ -1,0 +1,12 @@
+use Rattle.octets.proofs.data_bytes.Runs.{run_within, run_more, run_ends}
+use Rattle.octets.specs.quick.Data.{data_run}
+use native.Mathlib.Omega.{arith}
+use lib.ListN.{length}
+use Prim.Native.Nat.{◌≤◌, ◌-◌}
+use Rattle.octets.proofs.data_bytes.data_run.Given as goal
+
+abbrev pub invariant-loop-i : goal.invariant-loop-i
+invariant-loop-i l = l.i ≤ data_run l.bytes
+
+abbrev pub decreases-loop-i : goal.decreases-loop-i
+decreases-loop-i l = length l.bytes - l.i

@@ -1,0 +1,127 @@
+-- `read` meets its contract. The loop's invariant: the walk has come to a frame of so many bytes in the store.
+use mathlib.Core.Path.{refl, sym, ◌∙◌}
+use Prim.Native.Nat.{◌+◌, ◌-◌, ◌<◌}
+use native.Mathlib.Omega.{arith}
+use lib.ListN.{length, drop}
+use Rattle.decoder.specs.Call.{walk, further}
+use Rattle.decoder.proofs.Limit.{limit_is}
+use Rattle.stream.specs.quick.Bytes.{open_state}
+use Rattle.stream.proofs.Stores.{open_stored}
+use Rattle.stream.proofs.FrameSteps.{realtime_answers}
+use Rattle.stream.proofs.InFrame.{InFrame, frame_begins, run_moved, no_room_there, frame_ends, frame_answers, frame_goes_on}
+use borrow.Author.Rules.{rules}
+use Rattle.stream.proofs.frame.read.Goals as goal
+
+pub put_open-requires : goal.put_open-requires
+put_open-requires c = let a = c.args in
+    let l = c.loop-used in
+    let m = c.moved-run in
+    let w = further a.from (walk (open_state a.start a.state.now) a.store.now (drop a.from a.bytes.now)) in
+    let b = run_moved w a.state.now a.store.now a.bytes.now l.state l.store l.at l.used l.invariant m.result.at
+    m.result.used m.new.store m.ensures in
+    (b.free.0, omega (arith, b.fits, limit_is))
+
+pub returns-then-used-bytes : goal.returns-then-used-bytes
+returns-then-used-bytes c =
+    let if1 = c.if-used-bytes in
+    let put-open = c.put_open in
+    let a = c.args in
+    let l = c.loop-used in
+    let m = c.moved-run in
+    let w = further a.from (walk (open_state a.start a.state.now) a.store.now (drop a.from a.bytes.now)) in
+    let b = run_moved w a.state.now a.store.now a.bytes.now l.state l.store l.at l.used l.invariant m.result.at
+    m.result.used m.new.store m.ensures in
+    frame_ends w a.state.now a.store.now a.bytes.now l.state m.new.store m.result.at m.result.used b if1.true _ _ _
+    c.quiet.ensures (put-open.ensures ∙ open_stored l.state b.free m.result.at b.fits) refl
+
+pub bounds-bytes-used : goal.bounds-bytes-used
+bounds-bytes-used c = let a = c.args in
+    let l = c.loop-used in
+    let m = c.moved-run in
+    let w = further a.from (walk (open_state a.start a.state.now) a.store.now (drop a.from a.bytes.now)) in
+    let b = run_moved w a.state.now a.store.now a.bytes.now l.state l.store l.at l.used l.invariant m.result.at
+    m.result.used m.new.store m.ensures in
+    omega (arith, c.if-used-bytes.false, b.on.within)
+
+pub ends-requires : goal.ends-requires
+ends-requires c =
+    let if1 = c.if-used-bytes in
+    let if2 = c.if-byte-lt248 in
+    let a = c.args in
+    let l = c.loop-used in
+    let m = c.moved-run in
+    let w = further a.from (walk (open_state a.start a.state.now) a.store.now (drop a.from a.bytes.now)) in
+    let b = run_moved w a.state.now a.store.now a.bytes.now l.state l.store l.at l.used l.invariant m.result.at
+    m.result.used m.new.store m.ensures in
+    let more : m.result.used < length a.bytes.now = omega (arith, if1.false, b.on.within) in (
+      b.free,
+      b.room,
+      b.fits,
+      if2.true,
+      no_room_there w a.state.now a.store.now a.bytes.now l.state l.store l.at l.used
+          l.invariant m.result.at m.result.used m.new.store m.ensures more,
+    )
+
+-- NEED? same-length-3
+-- same-length-3 : tie.Need-same-length-3 invariant-loop decreases-loop
+-- same-length-3 c = search rules
+
+-- NEED? same-length-4
+-- same-length-4 : tie.Need-same-length-4 invariant-loop decreases-loop
+-- same-length-4 c = search rules
+
+pub returns-then-byte-lt248 : goal.returns-then-byte-lt248
+returns-then-byte-lt248 c =
+    let if1 = c.if-used-bytes in
+    let ends = c.ends in
+    let a = c.args in
+    let l = c.loop-used in
+    let m = c.moved-run in
+    let w = further a.from (walk (open_state a.start a.state.now) a.store.now (drop a.from a.bytes.now)) in
+    let b = run_moved w a.state.now a.store.now a.bytes.now l.state l.store l.at l.used l.invariant m.result.at
+    m.result.used m.new.store m.ensures in
+    let more : m.result.used < length a.bytes.now = omega (arith, if1.false, b.on.within) in
+    frame_answers w a.state.now a.store.now a.bytes.now l.state m.new.store m.result.at m.result.used b more _ _ _ ends.ensures
+
+pub put_open-requires-then-is_realtime : goal.put_open-requires-then-is_realtime
+put_open-requires-then-is_realtime c = let a = c.args in
+    let l = c.loop-used in
+    let m = c.moved-run in
+    let w = further a.from (walk (open_state a.start a.state.now) a.store.now (drop a.from a.bytes.now)) in
+    let b = run_moved w a.state.now a.store.now a.bytes.now l.state l.store l.at l.used l.invariant m.result.at
+    m.result.used m.new.store m.ensures in
+    (b.free.0, omega (arith, b.fits, limit_is))
+
+pub returns-then-is_realtime : goal.returns-then-is_realtime
+returns-then-is_realtime c =
+    let if1 = c.if-used-bytes in
+    let shared-slice-known2 = c.type_inv.bytes in
+    let is-realtime = c.is_realtime in
+    let if3 = c.if-is_realtime in
+    let put-open2 = c.put_open-then-is_realtime in
+    let a = c.args in
+    let l = c.loop-used in
+    let m = c.moved-run in
+    let w = further a.from (walk (open_state a.start a.state.now) a.store.now (drop a.from a.bytes.now)) in
+    let b = run_moved w a.state.now a.store.now a.bytes.now l.state l.store l.at l.used l.invariant m.result.at
+    m.result.used m.new.store m.ensures in
+    let more : m.result.used < length a.bytes.now = omega (arith, if1.false, b.on.within) in
+    frame_answers w a.state.now a.store.now a.bytes.now l.state m.new.store m.result.at m.result.used b more _ _ _
+    (realtime_answers (open_state m.result.at l.state) m.new.store _ (m.result.used + 1) _ _ _
+    (omega (arith, shared-slice-known2 m.result.used)) (sym is-realtime.ensures ∙ if3.true) c.realtime.ensures
+    (put-open2.ensures ∙ open_stored l.state b.free m.result.at b.fits) refl)
+
+pub loop-used-preserved : goal.loop-used-preserved
+loop-used-preserved c =
+    let if1 = c.if-used-bytes in
+    let shared-slice-known2 = c.type_inv.bytes in
+    let if2 = c.if-byte-lt248 in
+    let a = c.args in
+    let l = c.loop-used in
+    let m = c.moved-run in
+    let w = further a.from (walk (open_state a.start a.state.now) a.store.now (drop a.from a.bytes.now)) in
+    let b = run_moved w a.state.now a.store.now a.bytes.now l.state l.store l.at l.used l.invariant m.result.at
+    m.result.used m.new.store m.ensures in
+    let more : m.result.used < length a.bytes.now = omega (arith, if1.false, b.on.within) in
+    frame_goes_on w a.state.now a.store.now a.bytes.now l.state m.new.store m.result.at m.result.used b more
+    (omega (arith, shared-slice-known2 m.result.used)) if2.false (sym c.is_realtime.ensures ∙ c.if-is_realtime.false)

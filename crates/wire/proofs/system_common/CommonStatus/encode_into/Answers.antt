@@ -1,0 +1,28 @@
+-- `CommonStatus::encode_into` meets its contract: 21 first; then it hands the message's own bytes to `put`.
+use Rattle.refusal.proofs.Written.{stopped, went_on, same_bytes}
+use Rattle.wire.proofs.system_common.Bytes.{common_bytes_lem, common_length}
+use Rattle.wire.specs.SystemCommon.{common_bytes, common, common_in_range}
+use Rattle.refusal.specs.declared.Refusal.TheVariants.{ValueTooLarge}
+use borrow.Author.Tests.{not-true, not-false}
+use lib.ListN.{take}
+use native.Mathlib.Omega.{arith}
+use Prim.Native.Nat.{◌/◌, ◌%◌}
+use mathlib.Core.List.{[], ◌∷◌}
+use mathlib.Core.Bool.{true}
+use mathlib.Core.Path.{◌≡◌, sym, ◌∙◌}
+use borrow.Author.Rules.{rules}
+use Rattle.wire.proofs.system_common.CommonStatus.encode_into.Goals as goal
+
+pub returns : goal.returns
+returns c =
+    let carries = c.carries in
+    let if1 = c.if-not-carries in
+    let a = c.args in
+    let s = c.to_status-status in
+    let l = c.encoded_len-needed in
+    let p = c.put in
+    let fits : common_in_range (common a.self a.value) ≡ true = sym carries.ensures ∙ if1.false in
+    let same : take l.result (s.result ∷ a.value % 128 ∷ a.value / 128 % 128 ∷ []) ≡ common_bytes (common a.self a.value) =
+    rw (l.ensures, s.ensures) (common_bytes_lem a.self a.value fits) in
+    went_on _ 21 (a.value ∷ []) _ p.result a.out.now p.new.out fits
+    (same_bytes _ _ p.result a.out.now p.new.out same p.ensures)
