@@ -22,7 +22,7 @@ fn files(folder: &Path, below: &str, all: &mut Vec<String>) {
         let name = entry.file_name().to_string_lossy().into_owned();
         let path = if below.is_empty() { name.clone() } else { format!("{below}/{name}") };
         if entry.file_type().expect("a kind").is_dir() {
-            if name != "target" && name != ".git" {
+            if name != "target" && name != ".git" && name != "out" {
                 files(folder, &path, all);
             }
         } else {
@@ -38,7 +38,7 @@ fn sources() -> Sources {
     files(&root(), "", &mut all);
     for path in all {
         match path.strip_prefix("crates/") {
-            Some(below) if below.ends_with("/Proof.antt") => {}
+            Some(below) if (below.ends_with("/Invariants.antt") || below.ends_with("/Answers.antt")) && below.matches('/').count() > 2 => {}
             Some(below) if [".antt", ".rt", ".edit"].iter().any(|end| below.ends_with(end)) => sources.add(below, &text(&path)),
             _ => sources.add_other(&path),
         }
@@ -74,8 +74,8 @@ fn altered(sources: &Sources, from: &str, to: &str) {
 fn what_is_made_up_is_seen() {
     let sources = sources();
     for (from, to) in [
-        ("`condition-3-of-host`", "`condition-4-of-host`"),
-        ("`unpackedLengthOf`", "`unpackedLengthOff`"),
+        ("`condition_3_of_host`", "`condition_4_of_host`"),
+        ("`unpacked_length_of`", "`unpacked_length_off`"),
         ("`Bank::new`", "`Bank::made`"),
         ("`Bank::new`", "`Slot::index`"),
         ("`framing::is_framed`", "`packed::is_framed`"),

@@ -2,8 +2,7 @@
 use Rattle.std.specs.Prelude.{◌≡◌, List, ℕ}
 use Rattle.refusal.specs.Outcome.{Outcome, gives, refused, refusal}
 use Rattle.decoder.specs.declared.Decoder.{Decoder}
-use Rattle.decoder.specs.declared.Fed.{Fed}
-use Rattle.decoder.specs.Call.{Walked, fed_of, store_of}
+use Rattle.decoder.specs.Call.{Walked, store_of}
 use Rattle.decoder_in_place.specs.declared.by_value.Taken.{Taken}
 use Rattle.decoder_in_place.specs.declared.by_value.TakeAnswer.{TakeAnswer}
 use Rattle.decoder_in_place.specs.declared.by_value.TakeAnswer.TheVariants as a

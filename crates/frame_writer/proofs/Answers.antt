@@ -12,7 +12,7 @@ use Rattle.laws.specs.Choice.{pick}
 use Rattle.refusal.specs.declared.Refusal.TheVariants as r
 use Rattle.refusal.specs.declared.Count.{Count}
 use Rattle.refusal.specs.declared.Count.TheVariants as c
-use Rattle.refusal.specs.Outcome.{gives, unless, Writes}
+use Rattle.refusal.specs.Outcome.{gives, Writes}
 use Rattle.refusal.proofs.Given.{passed_on}
 use Rattle.refusal.proofs.Written.{counted_first, stopped, went_on}
 use Rattle.ids.specs.declared.device.DeviceId.{DeviceId}

@@ -12,7 +12,6 @@ use Rattle.laws.proofs.Tests.{both}
 use Rattle.refusal.specs.Outcome.{Outcome, gives, unless}
 use Rattle.command.specs.declared.Command.{Command}
 use Rattle.command.specs.Command.{code_of}
-use Rattle.command.specs.Payload as y
 use Rattle.command.specs.Payload.{payload_of, raw_length_for}
 use Rattle.command.proofs.Table.{of_every}
 use Rattle.packed.specs.Packed.{packed_length}

@@ -20,7 +20,6 @@ use Rattle.command.specs.Command.{code_of}
 use Rattle.command.specs.Payload as y
 use Rattle.command.specs.Payload.{Field, payload_of}
 use Rattle.command.proofs.Table.{code_reads_back}
-use Rattle.framing.specs.declared.MaybeByte.TheVariants as m
 use Rattle.framing.specs.Framing.{framed, first_high}
 use Rattle.message.specs.declared.fields.Fields.{Fields}
 use Rattle.message.specs.Prefix.{carries_run, optional, field_list, fields_in, fields_at, all_fit}

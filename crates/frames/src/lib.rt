@@ -1,3 +1,2 @@
 // Theorems about frames as they are read and written; no code of its own.
 #![tactic(auto)]
-

@@ -9,8 +9,7 @@ ghost use Rattle.host_answer.specs.Answer.{answer_of};
 use host_answer::Answer;
 
 // One of the 22 command bytes. Refuses 6.
-#[unsafe(no_mangle)]
-pub extern "C" fn dm_command(byte: u8) -> Answer
+pub fn dm_command(byte: u8) -> Answer
     ensures { result ≡ answer_of (and_then (command_of byte) (λ x. gives (code_of x))) }
 {
     match command::Command::from_byte(byte) {

@@ -9,7 +9,6 @@ use Rattle.wire.specs.declared.Channel.{Channel}
 use Rattle.wire.specs.declared.channel_message.ChannelMessage.{ChannelMessage}
 use Rattle.wire.specs.declared.channel_message.ChannelMessage.TheVariants as x
 use Rattle.wire.specs.declared.system_common.SystemCommon.TheVariants as y
-use Rattle.wire.specs.declared.real_time.Realtime.{Realtime}
 use Rattle.wire.specs.declared.real_time.Realtime.TheVariants as t
 use Rattle.wire.proofs.ReadBack.{kind}
 use Rattle.decoder.specs.declared.Report.{Report}

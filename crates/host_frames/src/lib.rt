@@ -105,8 +105,7 @@ fn not_read(e: Refusal) -> ReadAnswer
 }
 
 // Reads a frame, F0 to F7. Refuses 1, 2, 3, 4, 5, 6, then by its payload 7, 8, 13, 12, 9, 11; behind 2 no program byte is out of range.
-#[unsafe(no_mangle)]
-pub extern "C" fn dm_frame_read(bytes: &[u8]) -> ReadAnswer
+pub fn dm_frame_read(bytes: &[u8]) -> ReadAnswer
     ensures { result ≡ read_answer (read_record bytes.now) bytes.now }
 {
     match frame_reader::read_located(bytes) {
@@ -127,8 +126,7 @@ fn pattern_flag_fits(command: u8, has_pattern: u8) -> bool
 
 // How many bytes a message of this command takes beside a run of so many; has_pattern says whether a pattern dump names its pattern, and is looked
 // at for command 08 alone. It looks at no other field. NO_RECORD, ahead of every refusal, for command 08 with has_pattern above 1; then refuses 6, 22.
-#[unsafe(no_mangle)]
-pub extern "C" fn dm_frame_len(command: u8, has_pattern: u8, run_len: usize) -> Answer
+pub fn dm_frame_len(command: u8, has_pattern: u8, run_len: usize) -> Answer
     ensures { result ≡ pick (pattern_flag_fits command has_pattern) (answer_of (length_asked command has_pattern run_len)) no_record }
 {
     if !pattern_flag_fits(command, has_pattern) {
@@ -156,8 +154,7 @@ pub extern "C" fn dm_frame_len(command: u8, has_pattern: u8, run_len: usize) -> 
 
 // Writes a frame. NO_RECORD, ahead of every refusal, for everyone above 1 and for command 08 with has_pattern above 1, which no other command
 // looks at; then refuses 5, 6, the fields that the command has in wire order (8, 12, 9, 10, 11), 22, 14, 2. It looks at no run length.
-#[unsafe(no_mangle)]
-pub extern "C" fn dm_frame_write(
+pub fn dm_frame_write(
     everyone: u8,
     unit: u8,
     command: u8,

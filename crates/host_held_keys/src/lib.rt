@@ -23,8 +23,7 @@ pub struct HeldAnswer {
 }
 
 // Writes a record in which no key is held. Refuses 20 for any other length than HELD_LEN.
-#[unsafe(no_mangle)]
-pub extern "C" fn dm_held_fresh(keys: &mut [u8]) -> Answer
+pub fn dm_held_fresh(keys: &mut [u8]) -> Answer
     ensures { Sends (fresh_write keys.old) result keys.old keys.new }
 {
     if keys.len() != HELD_LEN {
@@ -35,8 +34,7 @@ pub extern "C" fn dm_held_fresh(keys: &mut [u8]) -> Answer
 }
 
 // Applies a message, given as dm_channel_write takes it. Refuses 20 for the length, NO_RECORD for a nibble that no record names, 17; then nothing is changed.
-#[unsafe(no_mangle)]
-pub extern "C" fn dm_held_apply(keys: &mut [u8], nibble: u8, channel: u8, a: u16, b: u8) -> Answer
+pub fn dm_held_apply(keys: &mut [u8], nibble: u8, channel: u8, a: u16, b: u8) -> Answer
     ensures { HeldSent (channel_kind nibble a b) channel result keys.old keys.new }
 {
     if keys.len() != HELD_LEN {
@@ -58,8 +56,7 @@ pub extern "C" fn dm_held_apply(keys: &mut [u8], nibble: u8, channel: u8, a: u16
 }
 
 // How many keys are held on a channel. Refuses 20 for the length, 17.
-#[unsafe(no_mangle)]
-pub extern "C" fn dm_held_count(keys: &[u8], channel: u8) -> Answer
+pub fn dm_held_count(keys: &[u8], channel: u8) -> Answer
     ensures { result ≡ answer_of (count_in keys.now channel) }
 {
     if keys.len() != HELD_LEN {
@@ -69,8 +66,7 @@ pub extern "C" fn dm_held_count(keys: &[u8], channel: u8) -> Answer
 }
 
 // The held key on the lowest channel, and there the lowest key. Refuses 20 for the length.
-#[unsafe(no_mangle)]
-pub extern "C" fn dm_held_first(keys: &[u8]) -> HeldAnswer
+pub fn dm_held_first(keys: &[u8]) -> HeldAnswer
     ensures { result ≡ first_in keys.now }
 {
     if keys.len() != HELD_LEN {

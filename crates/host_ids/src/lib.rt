@@ -12,8 +12,7 @@ ghost use Rattle.host_answer.specs.Answer.{answer_of};
 use host_answer::Answer;
 
 // 0 to 7. Refuses 9.
-#[unsafe(no_mangle)]
-pub extern "C" fn dm_bank(byte: u8) -> Answer
+pub fn dm_bank(byte: u8) -> Answer
     ensures { result ≡ answer_of (and_then (bank_of byte) (λ x. gives x.0)) }
 {
     match ids::Bank::new(byte) {
@@ -23,8 +22,7 @@ pub extern "C" fn dm_bank(byte: u8) -> Answer
 }
 
 // 0 to 127. Refuses 10.
-#[unsafe(no_mangle)]
-pub extern "C" fn dm_program(byte: u8) -> Answer
+pub fn dm_program(byte: u8) -> Answer
     ensures { result ≡ answer_of (and_then (program_of byte) (λ x. gives x.0)) }
 {
     match ids::ProgramNumber::new(byte) {
@@ -34,8 +32,7 @@ pub extern "C" fn dm_program(byte: u8) -> Answer
 }
 
 // 0 to 31. Refuses 11.
-#[unsafe(no_mangle)]
-pub extern "C" fn dm_pattern(byte: u8) -> Answer
+pub fn dm_pattern(byte: u8) -> Answer
     ensures { result ≡ answer_of (and_then (pattern_of byte) (λ x. gives x.0)) }
 {
     match ids::PatternNumber::new(byte) {
@@ -45,8 +42,7 @@ pub extern "C" fn dm_pattern(byte: u8) -> Answer
 }
 
 // 6 or 7. Refuses 8.
-#[unsafe(no_mangle)]
-pub extern "C" fn dm_version(byte: u8) -> Answer
+pub fn dm_version(byte: u8) -> Answer
     ensures { result ≡ answer_of (and_then (version_of byte) (λ x. gives x.0)) }
 {
     match ids::ProtocolVersion::new(byte) {
@@ -56,8 +52,7 @@ pub extern "C" fn dm_version(byte: u8) -> Answer
 }
 
 // How many raw bytes a program dump of this version holds. Refuses 8.
-#[unsafe(no_mangle)]
-pub extern "C" fn dm_program_data_len(byte: u8) -> Answer
+pub fn dm_program_data_len(byte: u8) -> Answer
     ensures { result ≡ answer_of (and_then (version_of byte) (λ x. gives (program_data_length x.0))) }
 {
     match ids::ProtocolVersion::new(byte) {
@@ -67,8 +62,7 @@ pub extern "C" fn dm_program_data_len(byte: u8) -> Answer
 }
 
 // 0 to 15, or 7F for everyone. Refuses 5.
-#[unsafe(no_mangle)]
-pub extern "C" fn dm_device(byte: u8) -> Answer
+pub fn dm_device(byte: u8) -> Answer
     ensures { result ≡ answer_of (and_then (device_of byte) (λ x. gives (device_byte x))) }
 {
     match ids::DeviceId::from_byte(byte) {
@@ -78,8 +72,7 @@ pub extern "C" fn dm_device(byte: u8) -> Answer
 }
 
 // 0 to 2. Refuses 12.
-#[unsafe(no_mangle)]
-pub extern "C" fn dm_interface(byte: u8) -> Answer
+pub fn dm_interface(byte: u8) -> Answer
     ensures { result ≡ answer_of (and_then (interface_of byte) (λ x. gives (interface_byte x))) }
 {
     match ids::Interface::from_byte(byte) {

@@ -37,8 +37,7 @@ pub struct ReplyAnswer {
 }
 
 // Refuses 1, 15, 5.
-#[unsafe(no_mangle)]
-pub extern "C" fn dm_request_read(bytes: &[u8]) -> RequestAnswer
+pub fn dm_request_read(bytes: &[u8]) -> RequestAnswer
     ensures { result ≡ request_answer (read_request bytes.now) }
 {
     match inquiry::request::parse_request(bytes) {
@@ -61,8 +60,7 @@ pub extern "C" fn dm_request_read(bytes: &[u8]) -> RequestAnswer
 }
 
 // Refuses 1, 16, 5.
-#[unsafe(no_mangle)]
-pub extern "C" fn dm_reply_read(bytes: &[u8]) -> ReplyAnswer
+pub fn dm_reply_read(bytes: &[u8]) -> ReplyAnswer
     ensures { result ≡ reply_answer (read_reply bytes.now) }
 {
     match inquiry::reply::parse_reply(bytes) {
@@ -96,8 +94,7 @@ pub extern "C" fn dm_reply_read(bytes: &[u8]) -> ReplyAnswer
 }
 
 // Writes a request. NO_RECORD for everyone above 1; then refuses 5, 14.
-#[unsafe(no_mangle)]
-pub extern "C" fn dm_request_write(everyone: u8, unit: u8, out: &mut [u8]) -> Answer
+pub fn dm_request_write(everyone: u8, unit: u8, out: &mut [u8]) -> Answer
     ensures { RequestSent everyone unit result out.old out.new }
 {
     if 1 < everyone {
@@ -107,8 +104,7 @@ pub extern "C" fn dm_request_write(everyone: u8, unit: u8, out: &mut [u8]) -> An
 }
 
 // Writes a reply. NO_RECORD for everyone above 1; then refuses 5, 14.
-#[unsafe(no_mangle)]
-pub extern "C" fn dm_reply_write(
+pub fn dm_reply_write(
     everyone: u8,
     unit: u8,
     major: u8,

@@ -15,24 +15,21 @@ use stream::{FedAnswer, STATE_LEN, state};
 
 // Takes bytes until the first that reports. state and store are lent at every call as the last one left them. Refuses 20, and then uses and writes
 // nothing.
-#[unsafe(no_mangle)]
-pub extern "C" fn dm_feed(state: &mut [u8], store: &mut [u8], bytes: &[u8]) -> FedAnswer
+pub fn dm_feed(state: &mut [u8], store: &mut [u8], bytes: &[u8]) -> FedAnswer
     ensures { StreamFed (feed_call state.old store.old bytes.now) result state.old state.new store.old store.new }
 {
     stream::feed(state, store, bytes)
 }
 
 // The frame limit.
-#[unsafe(no_mangle)]
-pub extern "C" fn dm_capacity() -> u64
+pub fn dm_capacity() -> u64
     ensures { result ≡ limit }
 {
     decoder::MAX_SYSEX_LEN as u64
 }
 
 // Writes a fresh state. Refuses 20 for any other length than STATE_LEN.
-#[unsafe(no_mangle)]
-pub extern "C" fn dm_fresh(state: &mut [u8]) -> Answer
+pub fn dm_fresh(state: &mut [u8]) -> Answer
     ensures { Sends (state_write fresh state.old) result state.old state.new }
 {
     if state.len() != STATE_LEN {
@@ -43,8 +40,7 @@ pub extern "C" fn dm_fresh(state: &mut [u8]) -> Answer
 }
 
 // Closes the frame and clears status and pending data, whatever the bytes hold. Refuses 20 for any other length than STATE_LEN.
-#[unsafe(no_mangle)]
-pub extern "C" fn dm_reset(state: &mut [u8]) -> Answer
+pub fn dm_reset(state: &mut [u8]) -> Answer
     ensures { Sends (reset_write state.old) result state.old state.new }
 {
     if state.len() != STATE_LEN {
@@ -56,8 +52,7 @@ pub extern "C" fn dm_reset(state: &mut [u8]) -> Answer
 }
 
 // 1 while a frame is open, else 0. Refuses 20 for bytes that are no state.
-#[unsafe(no_mangle)]
-pub extern "C" fn dm_in_sysex(state: &[u8]) -> Answer
+pub fn dm_in_sysex(state: &[u8]) -> Answer
     ensures { result ≡ answer_of (open_of state.now) }
 {
     if !state::is_state(state) {

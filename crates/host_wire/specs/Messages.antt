@@ -1,5 +1,5 @@
 -- Messages at the boundary: a kind that no record names gets an answer of its own, and nothing is written.
-use Rattle.std.specs.Prelude.{◌≡◌, List, ℕ, length}
+use Rattle.std.specs.Prelude.{List, ℕ, length}
 use Rattle.refusal.specs.Outcome.{gives}
 use Rattle.wire.specs.declared.channel_message.MaybeChannelMessage.{MaybeChannelMessage}
 use Rattle.wire.specs.declared.channel_message.MaybeChannelMessage.TheVariants as c

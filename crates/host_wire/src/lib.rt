@@ -18,8 +18,7 @@ use wire::{
 };
 
 // How many data bytes follow a channel status byte; NO_RECORD for any other byte.
-#[unsafe(no_mangle)]
-pub extern "C" fn dm_data_len(status: u8) -> Answer
+pub fn dm_data_len(status: u8) -> Answer
     ensures { result ≡ length_answer (channel_data_length status) }
 {
     match ChannelMessage::data_len_for(status) {
@@ -29,8 +28,7 @@ pub extern "C" fn dm_data_len(status: u8) -> Answer
 }
 
 // The byte of a real-time message; NO_RECORD for any other byte.
-#[unsafe(no_mangle)]
-pub extern "C" fn dm_realtime(byte: u8) -> Answer
+pub fn dm_realtime(byte: u8) -> Answer
     ensures { result ≡ realtime_answer (realtime_of byte) }
 {
     match wire::Realtime::from_status(byte) {
@@ -40,8 +38,7 @@ pub extern "C" fn dm_realtime(byte: u8) -> Answer
 }
 
 // Writes a channel message by its status nibble, its channel and its data. NO_RECORD for a nibble that no message has; then refuses 17, 14.
-#[unsafe(no_mangle)]
-pub extern "C" fn dm_channel_write(nibble: u8, channel: u8, a: u16, b: u8, out: &mut [u8]) -> Answer
+pub fn dm_channel_write(nibble: u8, channel: u8, a: u16, b: u8, out: &mut [u8]) -> Answer
     ensures { ChannelSent (channel_kind nibble a b) channel result out.old out.new }
 {
     match ChannelMessage::from_nibble(nibble, a, b) {
@@ -54,8 +51,7 @@ pub extern "C" fn dm_channel_write(nibble: u8, channel: u8, a: u16, b: u8, out: 
 }
 
 // Writes a system common message by its status byte; a tune request's value is not looked at. NO_RECORD for another byte; then refuses 21, 14.
-#[unsafe(no_mangle)]
-pub extern "C" fn dm_common_write(status: u8, value: u16, out: &mut [u8]) -> Answer
+pub fn dm_common_write(status: u8, value: u16, out: &mut [u8]) -> Answer
     ensures { CommonSent (common_status status) value result out.old out.new }
 {
     match CommonStatus::from_status(status) {
@@ -65,8 +61,7 @@ pub extern "C" fn dm_common_write(status: u8, value: u16, out: &mut [u8]) -> Ans
 }
 
 // Writes a real-time message. NO_RECORD for a byte that is none; then refuses 14.
-#[unsafe(no_mangle)]
-pub extern "C" fn dm_realtime_write(byte: u8, out: &mut [u8]) -> Answer
+pub fn dm_realtime_write(byte: u8, out: &mut [u8]) -> Answer
     ensures { RealtimeSent (realtime_of byte) result out.old out.new }
 {
     match Realtime::from_status(byte) {
@@ -76,8 +71,7 @@ pub extern "C" fn dm_realtime_write(byte: u8, out: &mut [u8]) -> Answer
 }
 
 // 0 to 15. Refuses 17.
-#[unsafe(no_mangle)]
-pub extern "C" fn dm_channel(byte: u8) -> Answer
+pub fn dm_channel(byte: u8) -> Answer
     ensures { result ≡ answer_of (and_then (channel_of byte) (λ x. gives x.0)) }
 {
     match wire::Channel::new(byte) {

@@ -1,8 +1,7 @@
 -- `read_header` meets its contract: length, maker and model, device, command and payload, each by its own test.
 use Rattle.frame_reader.proofs.Parts.{payload_part}
-use borrow.Author.Tests.{le-leb, lt-leb, not-true, not-false}
+use borrow.Author.Tests.{le-leb}
 use mathlib.Core.Path.{sym, ◌∙◌}
-use borrow.Author.Rules.{rules}
 use Rattle.frame_reader.proofs.read_header.Goals as goal
 
 pub returns-in-Err-read_payload : goal.returns-in-Err-read_payload

@@ -1,10 +1,7 @@
 -- `read_located` meets its contract: every accepted frame has its prefix, and the run ends ahead of the closing F7.
-use Rattle.frame_reader.proofs.RunPlace.{prefix_fits, run_length_lem, place_is}
-use Rattle.frame_reader.specs.declared.Place.{Place}
+use Rattle.frame_reader.proofs.RunPlace.{prefix_fits}
 use Rattle.frame_reader.specs.Reader.{record_told}
-use Rattle.refusal.specs.Outcome.{gives}
 use mathlib.Core.Path.{ap, sym, ◌∙◌}
-use borrow.Author.Rules.{rules}
 use Rattle.frame_reader.proofs.read_located.Goals as goal
 
 pub place_of-run-requires : goal.place_of-run-requires

@@ -1,10 +1,7 @@
 -- `read_record` meets its contract: framing, then the first high byte, then the rest.
-use Rattle.frame_reader.proofs.Parts.{framed_long, body_part}
+use Rattle.frame_reader.proofs.Parts.{body_part}
 use Rattle.frame_reader.specs.Reader.{read_record}
-use borrow.Author.Tests.{not-true, not-false}
-use native.Mathlib.Omega.{arith}
 use mathlib.Core.Path.{sym, ◌∙◌}
-use borrow.Author.Rules.{rules}
 use Rattle.frame_reader.proofs.read_record.Goals as goal
 
 pub returns-then-not-is_framed : goal.returns-then-not-is_framed

@@ -1,9 +1,8 @@
 -- `run_of` meets its contract: the part that the reader's place names.
-use Rattle.frame_reader.proofs.RunPlace.{with_place_lem, run_within, read_starts, read_run_lem, no_run}
+use Rattle.frame_reader.proofs.RunPlace.{with_place_lem, run_within, read_starts, read_run_lem}
 use Rattle.frame_reader.specs.Reader.{located_told}
 use native.Mathlib.Omega.{arith}
 use mathlib.Core.Path.{ap, sym, ◌∙◌}
-use borrow.Author.Rules.{rules}
 use Rattle.frame_reader.proofs.run_of.Goals as goal
 
 pub returns-in-Ok : goal.returns-in-Ok

@@ -1,10 +1,7 @@
 -- `put_frame` meets its contract: header, prefix, run and F7, each behind what stands already.
-use Rattle.frame_writer.proofs.Row.{frame_put, length_run}
+use Rattle.frame_writer.proofs.Row.{frame_put}
 use Rattle.frame_writer.specs.Writer.{header}
-use lib.ListN.{length-set}
-use Prim.Native.Nat.{◌-◌}
 use mathlib.Core.Path.{refl}
-use borrow.Author.Rules.{rules}
 use Rattle.frame_writer.proofs.put_frame.Goals as goal
 
 pub returns : goal.returns

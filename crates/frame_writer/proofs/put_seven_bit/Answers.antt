@@ -2,7 +2,6 @@
 use Rattle.frame_writer.proofs.Answers.{seven_refused, seven_written}
 use Rattle.framing.proofs.Bytes.{high_first, high_append}
 use mathlib.Core.Path.{refl, sym, ◌∙◌}
-use borrow.Author.Rules.{rules}
 use Rattle.frame_writer.proofs.put_seven_bit.Goals as goal
 
 pub returns-in-Some : goal.returns-in-Some
@@ -20,10 +19,6 @@ returns-in-Some-first_high c =
     let none = sym first-high.ensures ∙ c.in-None.is in
     seven_refused a.device a.command a.prefix.now a.run.now a.out.now c.in-Some-first_high.byte
     (high_append a.prefix.now a.run.now none ∙ sym first-high2.ensures ∙ c.in-Some-first_high.is)
-
--- NEED? same-length
--- same_length : tie.Need-same-length
--- same_length c = search rules
 
 pub returns-in-None-first_high : goal.returns-in-None-first_high
 returns-in-None-first_high c =

@@ -1,10 +1,6 @@
 -- `same_bytes` meets its contract: lists of one length compare as their rests do, while the bytes before agree.
-use Rattle.framing.proofs.Bytes.{differ_here, same_so_far, same_at_end, differ_in_length}
-use Rattle.framing.specs.Framing.{same_bytes}
-use native.Mathlib.Omega.{arith}
-use lib.ListN.{length, drop}
-use Prim.Native.Nat.{◌≤◌, ◌-◌}
-use mathlib.Core.Path.{◌≡◌, refl, sym, ◌∙◌}
+use Rattle.framing.proofs.Bytes.{differ_in_length}
+use mathlib.Core.Path.{sym}
 use Rattle.framing.proofs.same_bytes.Goals as goal
 
 pub returns-then-bytes-others : goal.returns-then-bytes-others

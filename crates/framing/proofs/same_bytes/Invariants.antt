@@ -1,9 +1,7 @@
-use Rattle.framing.proofs.Bytes.{differ_here, same_so_far, same_at_end, differ_in_length}
 use Rattle.framing.specs.Framing.{same_bytes}
-use native.Mathlib.Omega.{arith}
 use lib.ListN.{length, drop}
 use Prim.Native.Nat.{◌≤◌, ◌-◌}
-use mathlib.Core.Path.{◌≡◌, refl, sym, ◌∙◌}
+use mathlib.Core.Path.{◌≡◌}
 use Rattle.framing.proofs.same_bytes.Given as goal
 
 abbrev pub invariant-loop-i : goal.invariant-loop-i

@@ -1,7 +1,6 @@
 -- `applied` meets its contract: one word is stored, with the key's bit as the effect has it.
 use Rattle.held_keys.specs.HeldKeys.{effect_of, is_held}
 use Rattle.held_keys.specs.declared.Effect.TheVariants as e
-use borrow.Author.Tests.{le-ltb}
 use mathlib.Core.Path.{◌≡◌, refl, ap, sym, ◌∙◌}
 use mathlib.Core.Bool.{Bool, true, false}
 use Prim.Native.Nat.{◌<◌}
@@ -13,7 +12,6 @@ use Rattle.held_keys.specs.Record.{Shaped}
 use lib.ListN.{length}
 use lib.Dec.{eqb}
 use Rattle.laws.proofs.Tests.{by_test}
-use borrow.Author.Rules.{rules}
 use Rattle.held_keys.proofs.applied.Goals as goal
 
 pub returns-in-Hold : goal.returns-in-Hold

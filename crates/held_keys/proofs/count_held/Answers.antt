@@ -1,14 +1,8 @@
 -- `count_held` meets its contract: before each turn the count is the number of held keys below the next.
-use Rattle.refusal.specs.Outcome.{gives}
-use mathlib.Core.Path.{ap}
 use Rattle.held_keys.proofs.Keys.{count_more, count_same}
 use Rattle.held_keys.specs.HeldKeys.{is_held, count_below}
-use borrow.Author.Tests.{le-ltb, lt-ltb}
-use borrow.Author.Rules.{rules}
 use native.Mathlib.Omega.{arith}
-use Prim.Native.Nat.{ℕ, ◌≤◌, ◌-◌}
-use mathlib.Core.Logic.{⊎_elim}
-use mathlib.Core.Path.{◌≡◌, refl, sym, ◌∙◌}
+use mathlib.Core.Path.{refl, sym, ◌∙◌}
 use Rattle.held_keys.proofs.count_held.Goals as goal
 use Rattle.held_keys.proofs.count_held.Goals.{then-bit_set, else-bit_set}
 

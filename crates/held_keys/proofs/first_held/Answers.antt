@@ -1,11 +1,8 @@
 -- `first_held` meets its contract: before each turn no key was held among those that were looked at.
-use Rattle.held_keys.proofs.First.{NoneBelow, passed_key, found_key, found_none}
+use Rattle.held_keys.proofs.First.{passed_key, found_key, found_none}
 use Rattle.held_keys.specs.HeldKeys.{is_held}
-use Rattle.held_keys.specs.declared.FirstHeld.TheVariants as f
-use borrow.Author.Rules.{rules}
 use native.Mathlib.Omega.{arith}
-use Prim.Native.Nat.{◌≤◌, ◌<◌, ◌-◌, ◌+◌, ◌*◌}
-use mathlib.Core.Path.{◌≡◌, refl, sym, ◌∙◌}
+use mathlib.Core.Path.{sym, ◌∙◌}
 use Rattle.held_keys.proofs.first_held.Goals as goal
 
 pub loop-key-preserved : goal.loop-key-preserved

@@ -1,10 +1,7 @@
-use Rattle.held_keys.proofs.First.{NoneBelow, passed_key, found_key, found_none}
-use Rattle.held_keys.specs.HeldKeys.{is_held}
+use Rattle.held_keys.proofs.First.{NoneBelow}
 use Rattle.held_keys.specs.declared.FirstHeld.TheVariants as f
-use borrow.Author.Rules.{rules}
-use native.Mathlib.Omega.{arith}
 use Prim.Native.Nat.{◌≤◌, ◌<◌, ◌-◌, ◌+◌, ◌*◌}
-use mathlib.Core.Path.{◌≡◌, refl, sym, ◌∙◌}
+use mathlib.Core.Path.{◌≡◌}
 use Rattle.held_keys.proofs.first_held.Given as goal
 
 abbrev pub invariant-loop-key : goal.invariant-loop-key

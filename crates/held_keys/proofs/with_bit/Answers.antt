@@ -1,6 +1,5 @@
 -- `with_bit` meets its contract bit by bit.
 use Rattle.held_keys.proofs.Bits.{bit_with}
-use borrow.Author.Rules.{rules}
 use Rattle.held_keys.proofs.with_bit.Goals as goal
 
 pub returns : goal.returns

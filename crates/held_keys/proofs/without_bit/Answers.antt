@@ -1,7 +1,6 @@
 -- `without_bit` meets its contract bit by bit.
 use Rattle.held_keys.proofs.Bits.{bit_without}
 use native.Mathlib.Omega.{arith}
-use borrow.Author.Rules.{rules}
 use Rattle.held_keys.proofs.without_bit.Goals as goal
 
 pub returns : goal.returns

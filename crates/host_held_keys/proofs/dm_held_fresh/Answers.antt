@@ -1,6 +1,5 @@
 -- `dm_held_fresh` meets its contract: the length first, then the bytes of a record in which no key is held.
-use Rattle.host_held_keys.proofs.Applied.{fresh_refused, fresh_written}
-use borrow.Author.Rules.{rules}
+use Rattle.host_held_keys.proofs.Applied.{fresh_written}
 use Rattle.host_held_keys.proofs.dm_held_fresh.Goals as goal
 
 pub returns : goal.returns

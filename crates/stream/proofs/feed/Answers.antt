@@ -5,8 +5,7 @@ use native.Mathlib.Omega.{arith}
 use lib.ListN.{length, get_or}
 use Rattle.decoder.specs.State.{limit}
 use Rattle.decoder.proofs.Limit.{limit_is}
-use Rattle.stream.proofs.Reading.{refused_so, walked_so, no_state, short_store, taken_ready, taken_walks, untaken_refused}
-use borrow.Author.Rules.{rules}
+use Rattle.stream.proofs.Reading.{refused_so, walked_so, short_store, taken_ready, taken_walks, untaken_refused}
 use Rattle.stream.proofs.feed.Goals as goal
 
 pub returns-then-store-lt-MAX_SYSEX_LEN : goal.returns-then-store-lt-MAX_SYSEX_LEN
@@ -27,14 +26,6 @@ walk-requires c =
     let room : limit ≤ length a.store.now = omega (arith, if2.false, limit_is) in
     rw (front_of.ensures, middle_of.ensures)
     (taken_ready a.state.now if1.false small a.store.now room (rw (front_of.ensures, above_of.ensures, middle_of.ensures) at (sym takes.ensures ∙ if3.true)))
-
--- NEED? same-length
--- same_length : tie.Need-same-length
--- same_length c = search rules
-
--- NEED? same-length-2
--- same-length-2 : tie.Need-same-length-2
--- same-length-2 c = search rules
 
 pub returns-then-takes : goal.returns-then-takes
 returns-then-takes c =

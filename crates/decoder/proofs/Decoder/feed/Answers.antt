@@ -1,13 +1,11 @@
 -- `Decoder::feed` meets its contract: 20 first, for a short store and for an unsound state; then it walks.
-use Rattle.decoder.proofs.Calling.{short_refused, unsound_refused, ready_walks, refuses, feeds}
+use Rattle.decoder.proofs.Calling.{short_refused, ready_walks, refuses, feeds}
 use Rattle.decoder.proofs.Limit.{limit_is}
 use Rattle.decoder.specs.State.{limit}
-use borrow.Author.Tests.{not-true, not-false}
 use mathlib.Core.Path.{sym, ◌∙◌}
 use lib.ListN.{length}
 use Prim.Native.Nat.{◌<◌, ◌≤◌}
 use native.Mathlib.Omega.{arith}
-use borrow.Author.Rules.{rules}
 use Rattle.decoder.proofs.Decoder.feed.Goals as goal
 
 pub returns-then-store-lt-MAX_SYSEX_LEN : goal.returns-then-store-lt-MAX_SYSEX_LEN
@@ -17,10 +15,6 @@ returns-then-store-lt-MAX_SYSEX_LEN c = let a = c.args in
 
 pub walk-requires : goal.walk-requires
 walk-requires c = omega (arith, limit_is)
-
--- NEED? same-length
--- same_length : tie.Need-same-length
--- same_length c = search rules
 
 pub returns : goal.returns
 returns c = let a = c.args in

@@ -1,10 +1,9 @@
 -- `Decoder::is_sound` meets its contract: its tests are the definition's, in the same order.
 use Rattle.decoder.proofs.Limit.{limit_is}
 use Rattle.decoder.specs.State.{limit}
-use borrow.Author.Tests.{le-leb, lt-leb, ne_eqb, eq-eqb, not-true, not-false}
+use borrow.Author.Tests.{le-leb, lt-leb}
 use Prim.Native.Nat.{◌≤◌, ◌<◌}
 use native.Mathlib.Omega.{arith}
-use borrow.Author.Rules.{rules}
 use Rattle.decoder.proofs.Decoder.is_sound.Goals as goal
 
 pub returns-then-len-gt-MAX_SYSEX_LEN : goal.returns-then-len-gt-MAX_SYSEX_LEN

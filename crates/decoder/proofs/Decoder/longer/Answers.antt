@@ -1,7 +1,6 @@
 -- `Decoder::longer` meets its contract: below the limit one more fits.
 use Rattle.decoder.proofs.Limit.{limit_is}
 use native.Mathlib.Omega.{arith}
-use borrow.Author.Rules.{rules}
 use Rattle.decoder.proofs.Decoder.longer.Goals as goal
 
 pub overflow_add-result : goal.overflow_add-result

@@ -8,7 +8,6 @@ use mathlib.Core.Path.{refl, sym, ◌∙◌, ap}
 use Rattle.decoder.specs.Step.{silent}
 use Prim.Native.Nat.{◌≤◌, ◌<◌}
 use native.Mathlib.Omega.{arith}
-use borrow.Author.Rules.{rules}
 use Rattle.decoder.proofs.Decoder.step.Goals as goal
 
 pub returns-then-not-self : goal.returns-then-not-self
@@ -73,10 +72,6 @@ pub returns-in-Held : goal.returns-in-Held
 returns-in-Held c = let a = c.args in
     step_by k.Held a.self a.store.now a.byte (sym c.class_of-class.ensures ∙ c.in-Held.is) _ _
     (rw (c.status_byte.ensures, c.holding.ensures)) refl
-
--- NEED? same-length-3
--- same-length-3 : tie.Need-same-length-3
--- same-length-3 c = search rules
 
 pub returns-in-Start : goal.returns-in-Start
 returns-in-Start c = let a = c.args in

@@ -1,12 +1,7 @@
 -- `Decoder::walk` meets its contract. The loop's invariant: the bytes used so far and the walk over the rest are the whole walk.
 use Rattle.decoder.specs.Call.{Walked}
-use borrow.Author.Rules.{rules}
-use Rattle.decoder.proofs.Walking.{Walking, walking_begins, walking_stops, walking_goes_on, walking_ends}
-use Rattle.decoder.proofs.SoundKept.{length_kept}
+use Rattle.decoder.proofs.Walking.{walking_stops, walking_goes_on, walking_ends}
 use mathlib.Core.Path.{sym, ◌∙◌, ap}
-use lib.ListN.{length}
-use Prim.Native.Nat.{◌-◌}
-use native.Mathlib.Omega.{arith}
 use Rattle.decoder.proofs.Decoder.walk.Goals as goal
 
 pub returns-then-reports : goal.returns-then-reports
@@ -27,10 +22,6 @@ loop-used-preserved c =
     let s = c.step-done in
     walking_goes_on a.self a.store.now a.bytes.now l.state l.store l.used l.invariant loop-test.true s.result s.new.store
     s.ensures.0 s.ensures.1 (sym c.reports.ensures ∙ c.if-reports.false)
-
--- NEED? same-length-2
--- same-length-2 : tie.Need-same-length-2 invariant-loop decreases-loop
--- same-length-2 c = c.before.loop.invariant.same
 
 pub returns : goal.returns
 returns c = let a = c.args in

@@ -1,11 +1,6 @@
-use Rattle.decoder.specs.Call.{Walked}
-use borrow.Author.Rules.{rules}
-use Rattle.decoder.proofs.Walking.{Walking, walking_begins, walking_stops, walking_goes_on, walking_ends}
-use Rattle.decoder.proofs.SoundKept.{length_kept}
-use mathlib.Core.Path.{sym, ◌∙◌, ap}
+use Rattle.decoder.proofs.Walking.{Walking}
 use lib.ListN.{length}
 use Prim.Native.Nat.{◌-◌}
-use native.Mathlib.Omega.{arith}
 use Rattle.decoder.proofs.Decoder.walk.Given as goal
 
 abbrev pub invariant-loop-used : goal.invariant-loop-used

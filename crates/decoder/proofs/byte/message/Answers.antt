@@ -1,6 +1,5 @@
 -- `message` meets its contract: a channel message if the bytes are one, else a common one.
 use Rattle.decoder.specs.Step.{message_report}
-use borrow.Author.Rules.{rules}
 use Rattle.decoder.proofs.byte.message.Goals as goal
 
 pub returns-in-Some : goal.returns-in-Some

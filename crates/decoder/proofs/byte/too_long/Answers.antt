@@ -1,6 +1,5 @@
 -- `too_long` meets its contract: the code's constant is the limit.
 use Rattle.decoder.proofs.Limit.{limit_is}
-use borrow.Author.Rules.{rules}
 use Rattle.decoder.proofs.byte.too_long.Goals as goal
 
 pub returns : goal.returns

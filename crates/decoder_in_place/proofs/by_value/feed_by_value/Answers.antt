@@ -1,9 +1,5 @@
 -- `feed_by_value` meets its contract: by the answer of `Decoder::feed`, fed or refused.
-use Rattle.decoder_in_place.proofs.by_value.Moving.{feeds, refuses}
-use borrow.Author.Rules.{rules}
-use Rattle.decoder_in_place.proofs.by_value.feed_by_value.Reads as reads
-use Rattle.decoder_in_place.proofs.by_value.feed_by_value.Lts as lts
-use Rattle.decoder.proofs.Decoder.feed.Reads as feed-reads
+use Rattle.decoder_in_place.proofs.by_value.Moving.{refuses}
 use Rattle.decoder_in_place.proofs.by_value.feed_by_value.Goals as goal
 
 -- src/lib.rt:31:1

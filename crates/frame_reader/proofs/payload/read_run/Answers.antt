@@ -2,7 +2,7 @@
 use borrow.Author.Tests.{eq-eqb, ne_eqb}
 use Rattle.packed.specs.Packed.{unpacked_length}
 use Rattle.refusal.proofs.Given.{refused_too}
-use Rattle.frame_reader.proofs.payload.Tests.{fields_tested, run_too_short, any_run, run_accepted, run_numbered, run_refused, raw_small}
+use Rattle.frame_reader.proofs.payload.Tests.{fields_tested, run_too_short, any_run, run_accepted, run_numbered, run_refused}
 use Rattle.frame_reader.specs.Payload.{prefix_length, accepted, numbered_by}
 use Rattle.message.specs.quick.Prefix.{small_checked}
 use Rattle.packed.proofs.Lengths.{unpacked_given}
@@ -15,10 +15,8 @@ use lib.Dec.{eqb}
 use native.Mathlib.Omega.{arith}
 use Prim.Native.Nat.{ℕ, ◌-◌, ◌≤◌, ◌%◌}
 use mathlib.Core.List.{[], ◌∷◌}
-use mathlib.Core.Logic.{⊎_elim}
 use mathlib.Core.Bool.{true, false, not, ◌&&◌}
 use mathlib.Core.Path.{◌≡◌, ap, sym, ◌∙◌}
-use borrow.Author.Rules.{rules}
 use Rattle.frame_reader.proofs.payload.read_run.Goals as goal
 use Rattle.frame_reader.proofs.payload.read_run.Goals.{then-code-eq8+else-is_numbered, else-code-eq8}
 

@@ -1,12 +1,8 @@
 -- `keys_of` meets its contract: before each turn the channels below are those that the bytes say.
-use Rattle.held_keys.proofs.bytes.Filled.{channel_in, channel_stored, channels_all}
-use Rattle.laws.specs.Tabulate.{tab}
-use Rattle.laws.specs.Window.{window}
-use Rattle.laws.proofs.Window.{window_none}
-use lib.ListN.{length, get_or}
+use Rattle.held_keys.proofs.bytes.Filled.{channel_stored, channels_all}
+use lib.ListN.{get_or}
 use native.Mathlib.Omega.{arith}
-use Prim.Native.Nat.{ℕ, ◌≤◌, ◌<◌, ◌-◌}
-use mathlib.Core.Path.{◌≡◌, refl, sym}
+use Prim.Native.Nat.{ℕ, ◌<◌}
 use Rattle.held_keys.proofs.bytes.keys_of.Goals as goal
 
 pub loop-channel-preserved : goal.loop-channel-preserved

@@ -1,11 +1,9 @@
-use Rattle.held_keys.proofs.bytes.Filled.{channel_in, channel_stored, channels_all}
+use Rattle.held_keys.proofs.bytes.Filled.{channel_in}
 use Rattle.laws.specs.Tabulate.{tab}
 use Rattle.laws.specs.Window.{window}
-use Rattle.laws.proofs.Window.{window_none}
-use lib.ListN.{length, get_or}
-use native.Mathlib.Omega.{arith}
-use Prim.Native.Nat.{ℕ, ◌≤◌, ◌<◌, ◌-◌}
-use mathlib.Core.Path.{◌≡◌, refl, sym}
+use lib.ListN.{length}
+use Prim.Native.Nat.{◌≤◌, ◌-◌}
+use mathlib.Core.Path.{◌≡◌}
 use Rattle.held_keys.proofs.bytes.keys_of.Given as goal
 
 abbrev pub invariant-loop-channel : goal.invariant-loop-channel

@@ -1,14 +1,6 @@
 -- `put_keys` meets its contract: before each turn the bytes of the words below are written.
 use Rattle.held_keys.proofs.bytes.Filled.{word_stored, words_all}
-use Rattle.held_keys.specs.HeldBytes.{byte_of}
-use Rattle.laws.specs.Tabulate.{tab}
-use Rattle.laws.specs.Window.{window}
-use Rattle.laws.proofs.Window.{window_none}
-use lib.ListN.{length}
-use borrow.Author.Rules.{rules}
 use native.Mathlib.Omega.{arith}
-use Prim.Native.Nat.{◌*◌, ◌≤◌, ◌-◌}
-use mathlib.Core.Path.{◌≡◌, sym}
 use Rattle.held_keys.proofs.bytes.put_keys.Goals as goal
 
 pub loop-i-preserved : goal.loop-i-preserved
@@ -24,10 +16,6 @@ loop-i-preserved c =
       word_stored k _ l.bytes _ l.i (omega (arith, loop-test.true))
           l.invariant.1 l.invariant.2 l.invariant.3 put_word.ensures,
     )
-
--- NEED? same-length
--- same_length : tie.Need-same-length invariant-loop decreases-loop
--- same_length c = search rules
 
 pub returns : goal.returns
 returns c = let l = c.loop-i in

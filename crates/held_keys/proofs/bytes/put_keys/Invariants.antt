@@ -1,13 +1,9 @@
-use Rattle.held_keys.proofs.bytes.Filled.{word_stored, words_all}
 use Rattle.held_keys.specs.HeldBytes.{byte_of}
 use Rattle.laws.specs.Tabulate.{tab}
 use Rattle.laws.specs.Window.{window}
-use Rattle.laws.proofs.Window.{window_none}
 use lib.ListN.{length}
-use borrow.Author.Rules.{rules}
-use native.Mathlib.Omega.{arith}
 use Prim.Native.Nat.{◌*◌, ◌≤◌, ◌-◌}
-use mathlib.Core.Path.{◌≡◌, sym}
+use mathlib.Core.Path.{◌≡◌}
 use Rattle.held_keys.proofs.bytes.put_keys.Given as goal
 
 abbrev pub invariant-loop-i : goal.invariant-loop-i

@@ -1,18 +1,12 @@
 -- `reply_into` meets its contract: 5, then 14, then seventeen bytes stored one after another.
 use Rattle.inquiry.specs.Reply.{reply_bytes}
 use Rattle.ids.specs.Device.{device_byte, device_in_range}
-use Rattle.refusal.proofs.Written.{stopped, went_on, no_room, stored}
-use Rattle.refusal.specs.declared.Refusal.TheVariants as r
-use borrow.Author.Tests.{not-true, not-false}
-use lib.ListN.{length-set}
-use native.Mathlib.Omega.{arith}
+use Rattle.refusal.proofs.Written.{went_on, stored}
 use mathlib.Core.List.{[], ◌∷◌}
-use mathlib.Core.Bool.{true, false}
+use mathlib.Core.Bool.{true}
 use mathlib.Core.Path.{◌≡◌, refl, sym, ◌∙◌}
-use borrow.Author.Rules.{rules}
 use Rattle.inquiry.proofs.reply.reply_into.Goals as goal
 
--- WARN c.before.before.before.before.device_in_range_lem
 pub returns : goal.returns
 returns c =
     let device_in_range_lem = c.device_in_range in

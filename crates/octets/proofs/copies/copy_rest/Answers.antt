@@ -1,10 +1,9 @@
 -- `copy_rest` meets its contract: before each turn i bytes more behind the words are those of from.
-use Rattle.octets.proofs.copies.Copies.{copied, copied_front, copied_more, copied_all}
+use Rattle.octets.proofs.copies.Copies.{copied_more}
 use lib.ListN.{length, length-set}
 use native.Mathlib.Omega.{arith}
-use native.Mathlib.Nat.{add-zero}
-use Prim.Native.Nat.{◌+◌, ◌≤◌, ◌-◌, ◌*◌, ◌/◌, ◌%◌}
-use mathlib.Core.Path.{◌≡◌, refl, ap, sym, ◌∙◌}
+use Prim.Native.Nat.{◌+◌, ◌*◌, ◌/◌}
+use mathlib.Core.Path.{refl}
 use Rattle.octets.proofs.copies.copy_rest.Goals as goal
 
 pub loop-i-preserved : goal.loop-i-preserved
@@ -20,7 +19,3 @@ loop-i-preserved c =
           l.invariant.3,
       simp length-set l.invariant.4,
     )
-
--- NEED? same-length
--- same_length : tie.Need-same-length invariant-loop decreases-loop
--- same_length c = c.before.loop.invariant.4

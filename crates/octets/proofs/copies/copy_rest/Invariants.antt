@@ -1,9 +1,7 @@
-use Rattle.octets.proofs.copies.Copies.{copied, copied_front, copied_more, copied_all}
-use lib.ListN.{length, length-set}
-use native.Mathlib.Omega.{arith}
-use native.Mathlib.Nat.{add-zero}
+use Rattle.octets.proofs.copies.Copies.{copied}
+use lib.ListN.{length}
 use Prim.Native.Nat.{◌+◌, ◌≤◌, ◌-◌, ◌*◌, ◌/◌, ◌%◌}
-use mathlib.Core.Path.{◌≡◌, refl, ap, sym, ◌∙◌}
+use mathlib.Core.Path.{◌≡◌}
 use Rattle.octets.proofs.copies.copy_rest.Given as goal
 
 abbrev pub invariant-loop-i : goal.invariant-loop-i

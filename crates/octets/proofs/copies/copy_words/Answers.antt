@@ -1,10 +1,10 @@
 -- `copy_words` meets its contract: before each turn the first w words are those of from, the others as they were.
-use Rattle.octets.proofs.copies.Copies.{copied, copied_eight}
+use Rattle.octets.proofs.copies.Copies.{copied_eight}
 use Rattle.octets.proofs.words.Words.{word_stored}
-use lib.ListN.{length, get_or}
+use lib.ListN.{get_or}
 use native.Mathlib.Omega.{arith}
-use Prim.Native.Nat.{ℕ, ◌+◌, ◌≤◌, ◌<◌, ◌-◌, ◌*◌, ◌/◌}
-use mathlib.Core.Path.{◌≡◌, refl, ap, ◌∙◌}
+use Prim.Native.Nat.{ℕ, ◌+◌, ◌<◌, ◌*◌}
+use mathlib.Core.Path.{◌∙◌}
 use Rattle.octets.proofs.copies.copy_words.Goals as goal
 
 pub loop-w-preserved : goal.loop-w-preserved
@@ -22,7 +22,3 @@ loop-w-preserved c =
           ∙ copied_eight a.from.now a.to.now l.to (l.w * 8) ((l.w + 1) * 8) (omega arith) (omega arith) asked l.invariant.2,
       omega arith,
     )
-
--- NEED? same-length
--- same_length : tie.Need-same-length invariant-loop decreases-loop
--- same_length c = c.before.loop.invariant.3

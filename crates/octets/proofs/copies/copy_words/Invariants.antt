@@ -1,9 +1,7 @@
-use Rattle.octets.proofs.copies.Copies.{copied, copied_eight}
-use Rattle.octets.proofs.words.Words.{word_stored}
-use lib.ListN.{length, get_or}
-use native.Mathlib.Omega.{arith}
-use Prim.Native.Nat.{ℕ, ◌+◌, ◌≤◌, ◌<◌, ◌-◌, ◌*◌, ◌/◌}
-use mathlib.Core.Path.{◌≡◌, refl, ap, ◌∙◌}
+use Rattle.octets.proofs.copies.Copies.{copied}
+use lib.ListN.{length}
+use Prim.Native.Nat.{◌≤◌, ◌-◌, ◌*◌, ◌/◌}
+use mathlib.Core.Path.{◌≡◌}
 use Rattle.octets.proofs.copies.copy_words.Given as goal
 
 abbrev pub invariant-loop-w : goal.invariant-loop-w

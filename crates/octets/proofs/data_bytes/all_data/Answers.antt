@@ -1,12 +1,6 @@
 -- `all_data` meets its contract: what was joined so far has no top bit where the run goes as far.
 use Rattle.octets.proofs.data_bytes.Words.{seen_more}
-use Rattle.octets.specs.quick.Data.{data_run}
 use native.Mathlib.Omega.{arith}
-use borrow.Author.Tests.{le-leb}
-use lib.Dec.{ltb, leb}
-use lib.ListN.{length}
-use Prim.Native.Nat.{ℕ, ◌≤◌, ◌-◌}
-use mathlib.Core.Path.{◌≡◌, ap, sym, ◌∙◌}
 use Rattle.octets.proofs.data_bytes.all_data.Goals as goal
 
 pub loop-i-preserved : goal.loop-i-preserved

@@ -1,11 +1,8 @@
-use Rattle.octets.proofs.data_bytes.Words.{seen_more}
 use Rattle.octets.specs.quick.Data.{data_run}
-use native.Mathlib.Omega.{arith}
-use borrow.Author.Tests.{le-leb}
 use lib.Dec.{ltb, leb}
 use lib.ListN.{length}
-use Prim.Native.Nat.{ℕ, ◌≤◌, ◌-◌}
-use mathlib.Core.Path.{◌≡◌, ap, sym, ◌∙◌}
+use Prim.Native.Nat.{◌≤◌, ◌-◌}
+use mathlib.Core.Path.{◌≡◌}
 use Rattle.octets.proofs.data_bytes.all_data.Given as goal
 
 abbrev pub invariant-loop-i : goal.invariant-loop-i

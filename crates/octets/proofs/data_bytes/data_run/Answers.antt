@@ -1,9 +1,6 @@
 -- `data_run` meets its contract: byte by byte behind the words, until the run ends.
 use Rattle.octets.proofs.data_bytes.Runs.{run_within, run_more, run_ends}
-use Rattle.octets.specs.quick.Data.{data_run}
 use native.Mathlib.Omega.{arith}
-use lib.ListN.{length}
-use Prim.Native.Nat.{◌≤◌, ◌-◌}
 use Rattle.octets.proofs.data_bytes.data_run.Goals as goal
 
 pub returns-then-bytes-i-ge128 : goal.returns-then-bytes-i-ge128

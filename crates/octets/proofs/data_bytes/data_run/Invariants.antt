@@ -1,6 +1,4 @@
-use Rattle.octets.proofs.data_bytes.Runs.{run_within, run_more, run_ends}
 use Rattle.octets.specs.quick.Data.{data_run}
-use native.Mathlib.Omega.{arith}
 use lib.ListN.{length}
 use Prim.Native.Nat.{◌≤◌, ◌-◌}
 use Rattle.octets.proofs.data_bytes.data_run.Given as goal

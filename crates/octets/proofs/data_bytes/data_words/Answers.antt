@@ -1,10 +1,7 @@
 -- `data_words` meets its contract: what was seen by whole words belongs to the run.
 use Rattle.octets.proofs.data_bytes.Words.{word_more}
-use Rattle.octets.specs.quick.Data.{data_run}
 use native.Mathlib.Omega.{arith}
-use lib.ListN.{length}
-use Prim.Native.Nat.{◌≤◌, ◌-◌, ◌%◌}
-use mathlib.Core.Path.{◌≡◌, refl, sym, ◌∙◌}
+use mathlib.Core.Path.{sym, ◌∙◌}
 use Rattle.octets.proofs.data_bytes.data_words.Goals as goal
 
 pub loop-i-preserved : goal.loop-i-preserved

@@ -1,9 +1,7 @@
-use Rattle.octets.proofs.data_bytes.Words.{word_more}
 use Rattle.octets.specs.quick.Data.{data_run}
-use native.Mathlib.Omega.{arith}
 use lib.ListN.{length}
 use Prim.Native.Nat.{◌≤◌, ◌-◌, ◌%◌}
-use mathlib.Core.Path.{◌≡◌, refl, sym, ◌∙◌}
+use mathlib.Core.Path.{◌≡◌}
 use Rattle.octets.proofs.data_bytes.data_words.Given as goal
 
 abbrev pub invariant-loop-i : goal.invariant-loop-i

@@ -1,7 +1,6 @@
 -- `tops` meets its contract: the mask leaves the top bits of the joined word.
 use Rattle.octets.proofs.data_bytes.Words.{tops_left}
 use native.Mathlib.Omega.{arith}
-use borrow.Author.Rules.{rules}
 use Rattle.octets.proofs.data_bytes.tops.Goals as goal
 
 pub returns : goal.returns

@@ -5,10 +5,9 @@ use Rattle.laws.specs.Window.{window}
 use Rattle.laws.specs.Tabulate.{tab}
 use lib.ListN.{length}
 use native.Mathlib.Omega.{arith}
-use Prim.Native.Nat.{ℕ, ◌+◌, ◌*◌, ◌/◌, ◌≤◌}
+use Prim.Native.Nat.{ℕ, ◌+◌, ◌*◌, ◌/◌}
 use mathlib.Core.List.{List}
 use mathlib.Core.Path.{◌≡◌, ap, ◌∙◌}
-use borrow.Author.Rules.{rules}
 use Rattle.packed.proofs.packing.pack_all.Goals as goal
 
 pub returns-then-whole-groups : goal.returns-then-whole-groups
@@ -24,7 +23,3 @@ returns-then-whole-groups c =
     ∙ ap (λ (l : List ℕ). window l (8 * whole) (tab (group_byte a.raw.now (7 * whole)) 8)) p.ensures
     ∙ packed_more a.raw.now a.out.now whole (omega (arith, asked, if1.true))
     ∙ ap (λ (n : ℕ). window a.out.now 0 (tab (packed_byte a.raw.now) n)) all
-
--- NEED? same-length-2
--- same-length-2 : tie.Need-same-length-2
--- same-length-2 c = search rules

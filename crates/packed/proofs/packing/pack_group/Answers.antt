@@ -1,9 +1,7 @@
 -- `pack_group` meets its contract as `pack_last` does: after i turns i raw bytes are in place and their top bits gathered.
-use Rattle.packed.proofs.Groups.{Packing, packing_none, packing_more, packing_done}
-use borrow.Author.Rules.{rules}
-use lib.ListN.{length-set}
+use Rattle.packed.proofs.Groups.{packing_none, packing_more, packing_done}
 use native.Mathlib.Omega.{arith}
-use Prim.Native.Nat.{◌+◌, ◌-◌}
+use Prim.Native.Nat.{◌+◌}
 use mathlib.Core.Path.{refl}
 use Rattle.packed.proofs.packing.pack_group.Goals as goal
 

@@ -1,9 +1,5 @@
-use Rattle.packed.proofs.Groups.{Packing, packing_none, packing_more, packing_done}
-use borrow.Author.Rules.{rules}
-use lib.ListN.{length-set}
-use native.Mathlib.Omega.{arith}
-use Prim.Native.Nat.{◌+◌, ◌-◌}
-use mathlib.Core.Path.{refl}
+use Rattle.packed.proofs.Groups.{Packing}
+use Prim.Native.Nat.{◌-◌}
 use Rattle.packed.proofs.packing.pack_group.Given as goal
 
 abbrev pub invariant-loop-i : goal.invariant-loop-i

@@ -1,7 +1,7 @@
 -- `pack_into` meets its contract: the length first, then the room, then the groups.
 use Rattle.packed.proofs.Lengths.{packed_given}
 use Rattle.packed.specs.Packed.{packed, packed_byte, packed_length, packed_length_of}
-use Rattle.refusal.proofs.Written.{counted_first, refused_first, no_room, filled_in}
+use Rattle.refusal.proofs.Written.{counted_first, no_room, filled_in}
 use Rattle.refusal.specs.Outcome.{gives, counted}
 use Rattle.laws.proofs.Tabulate.{length_tab}
 use Rattle.laws.specs.Window.{window}
@@ -10,7 +10,6 @@ use lib.ListN.{length}
 use native.Mathlib.Omega.{arith}
 use Prim.Native.Nat.{ℕ, ◌*◌, ◌/◌}
 use mathlib.Core.Path.{◌≡◌, sym, ◌∙◌, ap}
-use borrow.Author.Rules.{rules}
 use Rattle.packed.proofs.packing.pack_into.Goals as goal
 
 pub returns-then-available-needed : goal.returns-then-available-needed

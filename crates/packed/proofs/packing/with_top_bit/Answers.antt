@@ -1,7 +1,6 @@
 -- `with_top_bit` meets its contract: the shifted bit lies above all that stands already.
 use native.Mathlib.Omega.{arith}
 use Rattle.packed.proofs.Bits.{top_bit_in}
-use borrow.Author.Rules.{rules}
 use Rattle.packed.proofs.packing.with_top_bit.Goals as goal
 
 pub returns : goal.returns

@@ -1,7 +1,6 @@
-use Rattle.packed.proofs.Groups.{Filled, filled_none, filled_more, filled_all, unpacked_more}
-use Rattle.packed.specs.Packed.{unpacked_byte, raw_byte}
-use native.Mathlib.Omega.{arith}
-use Prim.Native.Nat.{◌*◌, ◌-◌}
+use Rattle.packed.proofs.Groups.{Filled}
+use Rattle.packed.specs.Packed.{unpacked_byte}
+use Prim.Native.Nat.{◌-◌}
 use Rattle.packed.proofs.unpacking.unpack_groups.Given as goal
 
 abbrev pub invariant-loop-g : goal.invariant-loop-g

@@ -3,7 +3,7 @@ use mathlib.Core.List.{List}
 use Rattle.packed.proofs.Lengths.{unpacked_given}
 use Rattle.packed.proofs.Groups.{unpacked_more}
 use Rattle.packed.specs.Packed.{unpacked, unpacked_byte, raw_byte, unpacked_length, unpacked_length_of}
-use Rattle.refusal.proofs.Written.{counted_first, refused_first, no_room, filled_in}
+use Rattle.refusal.proofs.Written.{counted_first, no_room, filled_in}
 use Rattle.refusal.specs.Outcome.{gives, counted}
 use Rattle.laws.proofs.Tabulate.{length_tab}
 use Rattle.laws.specs.Window.{window}
@@ -12,7 +12,6 @@ use lib.ListN.{length}
 use native.Mathlib.Omega.{arith}
 use Prim.Native.Nat.{ℕ, ◌+◌, ◌*◌, ◌-◌, ◌/◌}
 use mathlib.Core.Path.{◌≡◌, sym, ◌∙◌, ap}
-use borrow.Author.Rules.{rules}
 use Rattle.packed.proofs.unpacking.unpack_into.Goals as goal
 
 pub returns-then-available-needed : goal.returns-then-available-needed
@@ -42,10 +41,6 @@ returns-then-whole-needed c = let a = c.args in
     (p.ensures ∙ ap (λ (o : List ℕ). window o (7 * g) (tab (raw_byte a.run.now (8 * g)) (n - 7 * g))) w.ensures
     ∙ unpacked_more a.run.now a.out.now g (n - 7 * g) (omega (arith, l)) (omega (arith, l, sum, room))
     ∙ ap (λ (m : ℕ). window a.out.now 0 (tab f m)) sum))
-
--- NEED? same-length-2
--- same-length-2 : tie.Need-same-length-2
--- same-length-2 c = search rules
 
 pub returns-else-whole-needed : goal.returns-else-whole-needed
 returns-else-whole-needed c = let a = c.args in

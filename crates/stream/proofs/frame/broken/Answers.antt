@@ -4,7 +4,6 @@ use native.Mathlib.Omega.{arith}
 use Rattle.stream.specs.quick.Bytes.{put_middle}
 use Rattle.decoder.proofs.Limit.{room_for_three}
 use Rattle.stream.proofs.FrameSteps.{start_answers, held_answers, undefined_answers, tune_answers}
-use borrow.Author.Rules.{rules}
 use Rattle.stream.proofs.frame.broken.Goals as goal
 
 pub bounds-store-0 : goal.bounds-store-0

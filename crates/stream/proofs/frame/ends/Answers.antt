@@ -3,7 +3,6 @@ use mathlib.Core.Path.{refl}
 use native.Mathlib.Omega.{arith}
 use Rattle.decoder.proofs.Limit.{limit_is}
 use Rattle.stream.proofs.FrameSteps.{end_answers, beyond_answers, end_is}
-use borrow.Author.Rules.{rules}
 use Rattle.stream.proofs.frame.ends.Goals as goal
 use Rattle.stream.proofs.frame.ends.Goals.{then-byte-ge128+else-byte-lt247, else-byte-ge128}
 

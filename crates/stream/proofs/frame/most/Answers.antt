@@ -1,7 +1,6 @@
 -- `most` meets its contract.
 use native.Mathlib.Omega.{arith}
 use Rattle.decoder.proofs.Limit.{limit_is}
-use borrow.Author.Rules.{rules}
 use Rattle.stream.proofs.frame.most.Goals as goal
 
 pub overflow_sub-room : goal.overflow_sub-room

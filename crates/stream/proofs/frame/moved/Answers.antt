@@ -1,10 +1,8 @@
 -- `moved` meets its contract: whole words, then byte by byte to the run's end or the room's.
-use mathlib.Core.Path.{◌∙◌}
 use Prim.Native.Nat.{◌+◌, ◌≤◌}
 use native.Mathlib.Omega.{arith}
 use lib.ListN.{length}
-use Rattle.stream.specs.quick.Going.{MovedTo}
-use Rattle.stream.proofs.Moving.{moving_begins, moving_length, moving_byte, moving_stops, moving_ends, moved_then}
+use Rattle.stream.proofs.Moving.{moving_length, moving_byte, moving_stops, moving_ends, moved_then}
 use Rattle.stream.proofs.frame.moved.Goals as goal
 
 pub returns-then-byte-ge128 : goal.returns-then-byte-ge128
@@ -46,22 +44,6 @@ loop-left-preserved c =
     let there₁ : m.result.used + m.result.left ≤ length a.bytes.now = omega (arith, m.ensures.next, m.ensures.rest, there) in
     moving_byte m.result.at m.result.used m.result.left m.new.store bytes room₁ there₁ l.at l.used l.left l.store
     l.invariant loop-test.true c.if-byte-ge128.false
-
--- NEED? same-length-2
--- same-length-2 : tie.Need-same-length-2 invariant-loop decreases-loop
--- same-length-2 c = let a = c.before.before.before.before.before.before.before.before.before.args in
---     let l = c.before.loop in
---     let p = c.before.before.before.before.before.before.before.before.before.requires in
---     let m = c.before.before.before.before.moved-words in
---     let n = c.before.before.before.before.before.before.most.result in
---     let store = a.store.now in
---     let bytes = a.bytes.now in
---     let room : a.start + n ≤ length a.store.now = omega (arith, c.before.before.before.before.before.before.most.ensures, p.0, p.1) in
---     let there : a.from + n ≤ length a.bytes.now = omega (arith, c.before.before.before.before.before.before.most.ensures, p.2) in
---     let long = moving_length a.start a.from n store bytes room there m.result.at m.result.used m.result.left m.new.1.1.1.0 m.ensures in
---     let room₁ : m.result.at + m.result.left ≤ length m.new.1.1.1.0 = omega (arith, m.ensures.place, m.ensures.rest, room, long) in
---     let there₁ : m.result.used + m.result.left ≤ length a.bytes.now = omega (arith, m.ensures.next, m.ensures.rest, there) in
---     moving_length m.result.at m.result.used m.result.left m.new.1.1.1.0 bytes room₁ there₁ l.at l.used l.left l.store l.invariant ∙ long
 
 pub returns : goal.returns
 returns c =

@@ -1,9 +1,4 @@
-use mathlib.Core.Path.{◌∙◌}
-use Prim.Native.Nat.{◌+◌, ◌≤◌}
-use native.Mathlib.Omega.{arith}
-use lib.ListN.{length}
 use Rattle.stream.specs.quick.Going.{MovedTo}
-use Rattle.stream.proofs.Moving.{moving_begins, moving_length, moving_byte, moving_stops, moving_ends, moved_then}
 use Rattle.stream.proofs.frame.moved.Given as goal
 
 abbrev pub invariant-loop-left : goal.invariant-loop-left

@@ -6,7 +6,7 @@ use native.Mathlib.Omega.{arith}
 use lib.ListN.{get_or}
 use Rattle.octets.proofs.data_bytes.Words.{no_tops}
 use Rattle.stream.specs.quick.Going.{MovedTo}
-use Rattle.stream.proofs.Moving.{moving_begins, moving_length, moving_word, word_plain}
+use Rattle.stream.proofs.Moving.{moving_word, word_plain}
 use Rattle.stream.proofs.frame.moved_words.Goals as goal
 
 pub loop-left-preserved : goal.loop-left-preserved
@@ -25,10 +25,3 @@ loop-left-preserved c =
     loop-test.true w.result small w.ensures
     (word_plain a.start a.from a.most a.store.now a.bytes.now p.0 p.1 l.at l.used l.left l.store l.invariant
     w.result small w.ensures (no_tops a.bytes.now l.used w.result small w.ensures if1.false)))
-
--- NEED? same-length-2
--- same-length-2 : tie.Need-same-length-2 invariant-loop decreases-loop
--- same-length-2 c = let a = c.before.before.before.before.args in
---     let l = c.before.loop in
---     let p = c.before.before.before.before.requires in
---     moving_length a.start a.from a.most a.store.now a.bytes.now p.0 p.1 l.at l.used l.left l.store l.invariant

@@ -1,6 +1,6 @@
 -- `read` meets its contract. The loop's invariant: the walk has come to a frame of so many bytes in the store.
 use mathlib.Core.Path.{refl, sym, ◌∙◌}
-use Prim.Native.Nat.{◌+◌, ◌-◌, ◌<◌}
+use Prim.Native.Nat.{◌+◌, ◌<◌}
 use native.Mathlib.Omega.{arith}
 use lib.ListN.{length, drop}
 use Rattle.decoder.specs.Call.{walk, further}
@@ -8,8 +8,7 @@ use Rattle.decoder.proofs.Limit.{limit_is}
 use Rattle.stream.specs.quick.Bytes.{open_state}
 use Rattle.stream.proofs.Stores.{open_stored}
 use Rattle.stream.proofs.FrameSteps.{realtime_answers}
-use Rattle.stream.proofs.InFrame.{InFrame, frame_begins, run_moved, no_room_there, frame_ends, frame_answers, frame_goes_on}
-use borrow.Author.Rules.{rules}
+use Rattle.stream.proofs.InFrame.{run_moved, no_room_there, frame_ends, frame_answers, frame_goes_on}
 use Rattle.stream.proofs.frame.read.Goals as goal
 
 pub put_open-requires : goal.put_open-requires
@@ -61,14 +60,6 @@ ends-requires c =
       no_room_there w a.state.now a.store.now a.bytes.now l.state l.store l.at l.used
           l.invariant m.result.at m.result.used m.new.store m.ensures more,
     )
-
--- NEED? same-length-3
--- same-length-3 : tie.Need-same-length-3 invariant-loop decreases-loop
--- same-length-3 c = search rules
-
--- NEED? same-length-4
--- same-length-4 : tie.Need-same-length-4 invariant-loop decreases-loop
--- same-length-4 c = search rules
 
 pub returns-then-byte-lt248 : goal.returns-then-byte-lt248
 returns-then-byte-lt248 c =

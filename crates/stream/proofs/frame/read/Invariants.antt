@@ -1,14 +1,8 @@
-use mathlib.Core.Path.{refl, sym, ◌∙◌}
-use Prim.Native.Nat.{◌+◌, ◌-◌, ◌<◌}
-use native.Mathlib.Omega.{arith}
+use Prim.Native.Nat.{◌-◌}
 use lib.ListN.{length, drop}
 use Rattle.decoder.specs.Call.{walk, further}
-use Rattle.decoder.proofs.Limit.{limit_is}
 use Rattle.stream.specs.quick.Bytes.{open_state}
-use Rattle.stream.proofs.Stores.{open_stored}
-use Rattle.stream.proofs.FrameSteps.{realtime_answers}
-use Rattle.stream.proofs.InFrame.{InFrame, frame_begins, run_moved, no_room_there, frame_ends, frame_answers, frame_goes_on}
-use borrow.Author.Rules.{rules}
+use Rattle.stream.proofs.InFrame.{InFrame}
 use Rattle.stream.proofs.frame.read.Given as goal
 
 abbrev pub invariant-loop-used : goal.invariant-loop-used

@@ -1,7 +1,7 @@
 -- `takes_open` meets its contract.
 use mathlib.Core.Path.{sym}
 use Rattle.decoder.proofs.Limit.{limit_is}
-use Rattle.stream.proofs.Tests.{no_flag, no_length, length_tested}
+use Rattle.stream.proofs.Tests.{length_tested}
 use Rattle.stream.proofs.numbers.takes_open.Goals as goal
 
 pub returns : goal.returns

@@ -1,5 +1,5 @@
 -- `takes_pending` meets its contract.
-use Rattle.stream.proofs.Statuses.{pending_none, pending_high, pending_low, pending_middle, pending_bend, pending_position}
+use Rattle.stream.proofs.Statuses.{pending_none, pending_low, pending_middle, pending_bend, pending_position}
 use Rattle.stream.proofs.numbers.takes_pending.Goals as goal
 
 pub returns-then-word-lt384 : goal.returns-then-word-lt384

@@ -2,9 +2,7 @@
 use mathlib.Core.Path.{refl}
 use Prim.Native.Nat.{◌/◌}
 use native.Mathlib.Omega.{arith}
-use Rattle.stream.proofs.Tests.{no_status_flag}
 use Rattle.stream.proofs.Statuses.{by_word, below_status, channel_waits, above_common, common_waits}
-use borrow.Author.Rules.{rules}
 use Rattle.stream.proofs.numbers.takes_waiting.Goals as goal
 
 pub returns-then-word-lt128 : goal.returns-then-word-lt128

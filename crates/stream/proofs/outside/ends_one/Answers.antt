@@ -1,6 +1,5 @@
 -- `ends_one` meets its contract.
 use Rattle.stream.proofs.Whole.{channel_of_one, common_of_one}
-use borrow.Author.Rules.{rules}
 use Rattle.stream.proofs.outside.ends_one.Goals as goal
 
 pub returns-then-status-lt240 : goal.returns-then-status-lt240

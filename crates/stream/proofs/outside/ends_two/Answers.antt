@@ -2,7 +2,6 @@
 use mathlib.Core.Path.{ap, ◌∙◌}
 use Rattle.stream.specs.quick.Bytes.{put_waiting}
 use Rattle.stream.proofs.Whole.{plain_of_two, bend_of_two, common_of_two}
-use borrow.Author.Rules.{rules}
 use Rattle.stream.proofs.outside.ends_two.Goals as goal
 
 pub returns-then-status-lt192 : goal.returns-then-status-lt192

@@ -1,10 +1,9 @@
 -- `skip` meets its contract: each word without a top bit is eight data bytes more.
-use Prim.Native.Nat.{ℕ, ◌-◌, ◌<◌}
+use Prim.Native.Nat.{ℕ, ◌<◌}
 use native.Mathlib.Omega.{arith}
-use lib.ListN.{length, get_or}
+use lib.ListN.{get_or}
 use Rattle.octets.proofs.data_bytes.Words.{no_tops}
-use Rattle.stream.specs.quick.Going.{Skipped}
-use Rattle.stream.proofs.Moving.{skip_begins, skip_within, skip_word}
+use Rattle.stream.proofs.Moving.{skip_within, skip_word}
 use Rattle.stream.proofs.outside.skip.Goals as goal
 
 pub overflow_sub-bytes : goal.overflow_sub-bytes

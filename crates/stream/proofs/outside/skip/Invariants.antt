@@ -1,9 +1,6 @@
-use Prim.Native.Nat.{ℕ, ◌-◌, ◌<◌}
-use native.Mathlib.Omega.{arith}
-use lib.ListN.{length, get_or}
-use Rattle.octets.proofs.data_bytes.Words.{no_tops}
+use Prim.Native.Nat.{◌-◌}
+use lib.ListN.{length}
 use Rattle.stream.specs.quick.Going.{Skipped}
-use Rattle.stream.proofs.Moving.{skip_begins, skip_within, skip_word}
 use Rattle.stream.proofs.outside.skip.Given as goal
 
 abbrev pub invariant-loop-i : goal.invariant-loop-i

@@ -1,15 +1,13 @@
 -- `walk` meets its contract. The loop's invariant: the numbers say the state that the walk has come to, or a frame is open.
 use mathlib.Core.Path.{refl, sym, subst, ◌∙◌}
-use Prim.Native.Nat.{ℕ, ◌+◌, ◌-◌, ◌<◌}
+use Prim.Native.Nat.{ℕ, ◌+◌, ◌<◌}
 use native.Mathlib.Omega.{arith}
 use lib.ListN.{length, get_or}
-use Rattle.wire.specs.Status.{data_length}
 use Rattle.decoder.specs.Call.{walk}
 use Rattle.decoder.proofs.Limit.{room_for_three}
 use Rattle.stream.specs.State.{state_of}
-use Rattle.stream.proofs.OutsideSteps.{first_leads, held_leads, cleared_leads, status_stays, status_back, takes_some, under_pending, under_one, under_two, second_ends, only_ends}
-use Rattle.stream.proofs.Reached.{Reached, walk_begins, open_ends, outside_ends, outside_answers, outside_realtime, outside_tune, leads_on, unnamed_on, stray_on, opens_on}
-use borrow.Author.Rules.{rules}
+use Rattle.stream.proofs.OutsideSteps.{first_leads, held_leads, cleared_leads, status_stays, status_back, under_one, under_two, second_ends, only_ends}
+use Rattle.stream.proofs.Reached.{Reached, walk_begins, outside_ends, outside_answers, outside_realtime, outside_tune, leads_on, unnamed_on, stray_on, opens_on}
 use Rattle.stream.proofs.outside.walk.Goals as goal
 
 pub loop-at-init : goal.loop-at-init
@@ -94,14 +92,6 @@ ends_two-requires-then-last-lt128 c =
     let h = l.invariant.outside loop-test.true in
     let under = under_two l.middle l.first (get_or l.state 13 0) h.numbers if3.false if4.false _ _ status-in.ensures takes_one.ensures if5.false in
     (h.free, under, if2.true, c.if-last-lt128.true)
-
--- NEED? same-length-7
--- same-length-7 : tie.Need-same-length-7 invariant-loop decreases-loop
--- same-length-7 c = search rules
-
--- NEED? same-length-8
--- same-length-8 : tie.Need-same-length-8 invariant-loop decreases-loop
--- same-length-8 c = search rules
 
 pub returns-then-last-lt128 : goal.returns-then-last-lt128
 returns-then-last-lt128 c =

@@ -1,8 +1,6 @@
 -- `put_state` meets its contract: fourteen stores one after another fill the fourteen bytes.
-use lib.ListN.{length-set}
 use Rattle.stream.specs.State.{encoded}
 use Rattle.stream.proofs.StateBytes.{stored_all}
-use borrow.Author.Rules.{rules}
 use Rattle.stream.proofs.state.put_state.Goals as goal
 
 pub returns : goal.returns

@@ -1,16 +1,12 @@
 -- `CommonStatus::encode_into` meets its contract: 21 first; then it hands the message's own bytes to `put`.
-use Rattle.refusal.proofs.Written.{stopped, went_on, same_bytes}
-use Rattle.wire.proofs.system_common.Bytes.{common_bytes_lem, common_length}
+use Rattle.refusal.proofs.Written.{went_on, same_bytes}
+use Rattle.wire.proofs.system_common.Bytes.{common_bytes_lem}
 use Rattle.wire.specs.SystemCommon.{common_bytes, common, common_in_range}
-use Rattle.refusal.specs.declared.Refusal.TheVariants.{ValueTooLarge}
-use borrow.Author.Tests.{not-true, not-false}
 use lib.ListN.{take}
-use native.Mathlib.Omega.{arith}
 use Prim.Native.Nat.{◌/◌, ◌%◌}
 use mathlib.Core.List.{[], ◌∷◌}
 use mathlib.Core.Bool.{true}
 use mathlib.Core.Path.{◌≡◌, sym, ◌∙◌}
-use borrow.Author.Rules.{rules}
 use Rattle.wire.proofs.system_common.CommonStatus.encode_into.Goals as goal
 
 pub returns : goal.returns

@@ -1,0 +1,11 @@
+// The static library that C links: each entry point of the crates host_NAME under its own symbol, with the promise of the call that it makes.
+#![tactic(auto)]
+
+mod c_command;
+mod c_frames;
+mod c_held_keys;
+mod c_ids;
+mod c_inquiry;
+mod c_packed;
+mod c_stream;
+mod c_wire;
