@@ -2,7 +2,6 @@
 // A list of names is one text, with a bar between two names.
 #![tactic(auto)]
 
-
 pub mod refusals;
 
 // One byte.
@@ -17,10 +16,8 @@ pub fn put(out: &mut [u8], at: usize, byte: u8) -> usize {
 // Bytes as they are.
 pub fn put_all(out: &mut [u8], at: usize, bytes: &[u8]) -> usize {
     let mut next = at;
-    let mut i: usize = 0;
-    while i < bytes.len() {
-        next = put(out, next, bytes[i]);
-        i += 1;
+    for byte in bytes {
+        next = put(out, next, *byte);
     }
     next
 }
@@ -52,10 +49,8 @@ pub fn put_hex(out: &mut [u8], at: usize, byte: u8) -> usize {
 // Bytes as hexadecimal digits, with no space between them.
 pub fn put_hex_all(out: &mut [u8], at: usize, bytes: &[u8]) -> usize {
     let mut next = at;
-    let mut i: usize = 0;
-    while i < bytes.len() {
-        next = put_hex(out, next, bytes[i]);
-        i += 1;
+    for byte in bytes {
+        next = put_hex(out, next, *byte);
     }
     next
 }
@@ -70,14 +65,12 @@ pub fn front(bytes: &[u8], count: usize) -> &[u8] {
 
 // The place of the next bar from a place on, or the end.
 fn bar(names: &[u8], from: usize) -> usize {
-    let mut i = from;
-    while i < names.len() {
+    for i in from..names.len() {
         if names[i] == 124 {
             return i;
         }
-        i += 1;
     }
-    i
+    from.max(names.len())
 }
 
 // One fewer at a bar.
@@ -94,15 +87,13 @@ fn fewer(left: usize, byte: u8) -> usize {
 // Where the name of a number begins; the end where there are fewer.
 fn start(names: &[u8], number: usize) -> usize {
     let mut left = number;
-    let mut i: usize = 0;
-    while i < names.len() {
+    for (i, byte) in names.iter().enumerate() {
         if left == 0 {
             return i;
         }
-        left = fewer(left, names[i]);
-        i += 1;
+        left = fewer(left, *byte);
     }
-    i
+    names.len()
 }
 
 // The name of a number in a list of names.
