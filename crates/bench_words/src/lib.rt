@@ -37,14 +37,12 @@ fn first_word(ask: &[u8]) -> &[u8] {
 // The number of a request's word, or WORDS.
 pub fn word_of(ask: &[u8]) -> usize {
     let word = first_word(ask);
-    let mut number: usize = 0;
-    while number < WORDS {
+    for number in 0..WORDS {
         if is_word(word, number) {
             return number;
         }
-        number += 1;
     }
-    number
+    WORDS
 }
 
 // The words of runs, messages and streams.

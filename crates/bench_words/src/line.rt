@@ -5,14 +5,12 @@ use ids::DeviceId;
 
 // The place behind the next space, or the end where there is none.
 pub fn behind(ask: &[u8], at: usize) -> usize {
-    let mut i = at;
-    while i < ask.len() {
+    for i in at..ask.len() {
         if ask[i] == 32 {
             return i + 1;
         }
-        i += 1;
     }
-    i
+    at.max(ask.len())
 }
 
 fn wide(byte: u8) -> u64 {
@@ -30,8 +28,7 @@ fn appended(n: u64, digit: u8) -> u64 {
 // The number that begins at a place.
 pub fn number(ask: &[u8], at: usize) -> u64 {
     let mut n: u64 = 0;
-    let mut i = at;
-    while i < ask.len() {
+    for i in at..ask.len() {
         let digit = ask[i];
         if digit < 48 {
             return n;
@@ -40,7 +37,6 @@ pub fn number(ask: &[u8], at: usize) -> u64 {
             return n;
         }
         n = appended(n, digit - 48);
-        i += 1;
     }
     n
 }

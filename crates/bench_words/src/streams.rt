@@ -204,15 +204,13 @@ pub fn feed(ask: &[u8], at: usize, out: &mut [u8]) -> usize {
 
 // Where the next size stands: behind the comma, or at the first again.
 fn next_size(ask: &[u8], from: usize, first: usize) -> usize {
-    let mut i = from;
-    while i < ask.len() {
+    for i in from..ask.len() {
         if ask[i] == 44 {
             return i + 1;
         }
         if ask[i] == 32 {
             return first;
         }
-        i += 1;
     }
     first
 }
@@ -233,15 +231,13 @@ fn pieces(ask: &[u8], sizes: usize, bytes: &[u8], store: &mut [u8], out: &mut [u
     let mut told = fresh(out);
     let mut size = sizes;
     let mut end: usize = 0;
-    let mut turns: u64 = 65536;
-    while turns > 0 {
+    for _ in 0..65536 {
         if end == bytes.len() {
             break;
         }
         end = further(end, line::number(ask, size), bytes.len());
         told = part(told, store, text::front(bytes, end), false, out);
         size = next_size(ask, size, sizes);
-        turns -= 1;
     }
     ended(told, bytes, out)
 }

@@ -12,10 +12,8 @@ pub const WORDS_COLUMN: usize = 42;
 // Spaces up to a column.
 pub fn pad(out: &mut [u8], at: usize, column: usize) -> usize {
     let mut next = at;
-    let mut i = at;
-    while i < column {
+    for _ in at..column {
         next = text::put(out, next, 32);
-        i += 1;
     }
     next
 }
@@ -28,10 +26,8 @@ fn put_spaced(out: &mut [u8], at: usize, byte: u8) -> usize {
 
 fn put_spaced_all(out: &mut [u8], at: usize, bytes: &[u8]) -> usize {
     let mut next = at;
-    let mut i: usize = 0;
-    while i < bytes.len() {
-        next = put_spaced(out, next, bytes[i]);
-        i += 1;
+    for byte in bytes {
+        next = put_spaced(out, next, *byte);
     }
     next
 }
