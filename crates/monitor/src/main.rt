@@ -1,10 +1,13 @@
 // Shows MIDI bytes, a line for each report: the place of the byte that gave it, the message's bytes, and what they say. The bytes come from
-// standard input or from a file, in pieces. What goes wrong is said on standard error: a program of this kit has no exit status of its own.
+// standard input or from a file, in pieces. What cannot be opened or read is said on standard error and the program ends well; a line that
+// cannot be written ends it with that error.
 #![tactic(auto)]
 
 use decoder::{Decoder, MaybeReport, Report};
 use decoder_in_place::by_value::{TakeAnswer, Taken};
-use libc::{STDERR_FILENO, STDIN_FILENO, STDOUT_FILENO};
+use std::io::Read;
+use std::rt::Files;
+use std::{env, fs, io};
 
 // How far the stream has come: the decoder's state, the bytes of the pieces before, and the next byte of this piece.
 #[derive(Clone, Copy)]
@@ -15,96 +18,139 @@ struct Seen {
 }
 
 // One line.
-fn show(place: u64, store: &[u8], report: Report) {
+fn show(rt: &impl Print, place: u64, store: &[u8], report: Report) -> io::Result<()> {
     let mut line = [0u8; 512];
     let a = text::put_decimal(&mut line, 0, place);
     let b = monitor_words::pad(&mut line, a, 10);
     let d = monitor_words::put_report(&mut line, b, store, report);
     let e = text::put(&mut line, d, 10);
-    io::write_all(STDOUT_FILENO, text::front(&line, e));
+    rt.write_all(text::front(&line, e))
 }
 
 // A line, unless it is clock or active sensing and these are hidden.
-fn show_unless(quiet: bool, place: u64, store: &[u8], report: Report) {
+fn show_unless(
+    rt: &impl Print,
+    quiet: bool,
+    place: u64,
+    store: &[u8],
+    report: Report,
+) -> io::Result<()> {
     if quiet {
         if monitor_words::is_steady(report) {
-            return;
+            return Ok(());
         }
     }
-    show(place, store, report);
+    show(rt, place, store, report)
 }
 
 // The reports of one call.
-fn show_all(quiet: bool, place: u64, store: &[u8], taken: Taken) {
+fn show_all(
+    rt: &impl Print,
+    quiet: bool,
+    place: u64,
+    store: &[u8],
+    taken: Taken,
+) -> io::Result<()> {
     let own = taken.report;
     if taken.interrupted {
-        show(place, store, Report::SysExInterrupted);
+        show(rt, place, store, Report::SysExInterrupted)?;
     }
     match own {
-        MaybeReport::None => {}
-        MaybeReport::Some(report) => show_unless(quiet, place, store, report),
+        MaybeReport::None => Ok(()),
+        MaybeReport::Some(report) => show_unless(rt, quiet, place, store, report),
     }
 }
 
 // One call on the bytes from the next on; it stands still where the call is refused, which no call from a fresh decoder is.
-fn call(seen: Seen, store: &mut [u8], bytes: &[u8], quiet: bool) -> Seen {
+fn call(
+    rt: &impl Print,
+    seen: Seen,
+    store: &mut [u8],
+    bytes: &[u8],
+    quiet: bool,
+) -> io::Result<Seen> {
     let state = seen.state;
     let place = seen.place;
     let before = seen.before;
     if bytes.len() < place {
-        return seen;
+        return Ok(seen);
     }
     let next = decoder_in_place::feed_held(state, store, &bytes[place..]);
     let after = next.state;
     let answer = next.answer;
     match answer {
-        TakeAnswer::Err(_) => seen,
+        TakeAnswer::Err(_) => Ok(seen),
         TakeAnswer::Ok(taken) => {
             let used = taken.used;
             if used == 0 {
-                return seen;
+                return Ok(seen);
             }
             if bytes.len() - place < used {
-                return seen;
+                return Ok(seen);
             }
             let last = place + (used - 1);
             show_all(
+                rt,
                 quiet,
                 std::num::wrapping_add_u64(before, last as u64),
                 store,
                 taken,
-            );
-            Seen {
+            )?;
+            Ok(Seen {
                 state: after,
                 before,
                 place: place + used,
-            }
+            })
         }
     }
 }
 
 // Calls until the piece is used up.
-fn take(seen: Seen, store: &mut [u8], bytes: &[u8], quiet: bool) -> Seen {
+fn take(
+    rt: &impl Print,
+    seen: Seen,
+    store: &mut [u8],
+    bytes: &[u8],
+    quiet: bool,
+) -> io::Result<Seen> {
     let mut now = seen;
     while now.place < bytes.len() {
-        let next = call(now, store, bytes, quiet);
+        let next = call(rt, now, store, bytes, quiet)?;
         if next.place <= now.place {
             break;
         }
         now = next;
     }
-    now
+    Ok(now)
+}
+
+// Says what failed, as the caller names it, and the system's words for why, without the number behind them.
+fn fail(rt: &(impl Eprint + Alloc), what: &str, error: io::Error) -> io::Result<()> {
+    let said = format!(in rt.alloc(); "{error}")?;
+    let why = match said.as_str().split_once(" (os error ") {
+        Some((words, _)) => words,
+        None => said.as_str(),
+    };
+    eprintln!(rt; "{what}: {why}")
 }
 
 // Reads one piece and takes it. The place that comes back is 0 where nothing more came.
-fn piece(fd: i32, path: &[u8], seen: Seen, store: &mut [u8], quiet: bool) -> Seen {
-    let mut bytes = io::buffer();
-    let got = libc::read(fd, &mut bytes);
-    if got < 0 {
-        os::fail(path);
+fn piece<R: Print + Eprint + Alloc>(
+    rt: &R,
+    input: &mut impl Read,
+    path: &str,
+    seen: Seen,
+    store: &mut [u8],
+    quiet: bool,
+) -> io::Result<Seen> {
+    let mut bytes = [0u8; 4096];
+    match input.read(&mut bytes) {
+        Ok(n) => take(rt, seen, store, &bytes[..n], quiet),
+        Err(error) => {
+            fail(rt, path, error)?;
+            Ok(seen)
+        }
     }
-    let n = io::count(got, &bytes);
-    take(seen, store, &bytes[..n], quiet)
 }
 
 // What was seen, at the start of the next piece.
@@ -118,63 +164,78 @@ fn turned(seen: Seen) -> Seen {
 }
 
 // A frame that is still open when the input ends.
-fn ended(seen: Seen) {
+fn ended(rt: &impl Print, seen: Seen) -> io::Result<()> {
     let mut line = [0u8; 128];
     let state = seen.state;
     if state.in_sysex {
         let a = text::put_all(&mut line, 0, b"end: a frame is still open, ");
         let b = text::put_decimal(&mut line, a, state.len as u64);
         let d = text::put_all(&mut line, b, b" bytes so far\n");
-        io::write_all(STDOUT_FILENO, text::front(&line, d));
+        rt.write_all(text::front(&line, d))?;
     }
+    Ok(())
 }
 
 // Pieces until nothing more comes. A proved loop has to end, so the turns are counted.
-fn pieces(fd: i32, path: &[u8], begun: Seen, quiet: bool, store: &mut [u8]) -> Seen {
+fn pieces<R: Print + Eprint + Alloc>(
+    rt: &R,
+    input: &mut impl Read,
+    path: &str,
+    begun: Seen,
+    quiet: bool,
+    store: &mut [u8],
+) -> io::Result<Seen> {
     let mut seen = begun;
-    let mut turns = u64::MAX;
-    while turns > 0 {
-        let next = piece(fd, path, seen, store, quiet);
+    for _ in 0..u64::MAX {
+        let next = piece(rt, input, path, seen, store, quiet)?;
         if next.place == 0 {
-            return next;
+            return Ok(next);
         }
         seen = turned(next);
-        turns -= 1;
     }
-    seen
+    Ok(seen)
 }
 
-fn watch(fd: i32, path: &[u8], quiet: bool, store: &mut [u8]) {
+fn watch<R: Print + Eprint + Alloc>(
+    rt: &R,
+    input: &mut impl Read,
+    path: &str,
+    quiet: bool,
+    store: &mut [u8],
+) -> io::Result<()> {
     let state = Decoder::new();
     let begun = Seen {
         state,
         before: 0,
         place: 0,
     };
-    ended(pieces(fd, path, begun, quiet, store));
+    ended(rt, pieces(rt, input, path, begun, quiet, store)?)
 }
 
-fn watch_file(path: &[u8], quiet: bool) {
+fn watch_file<R: Print + Eprint + Alloc + Files>(
+    rt: &R,
+    path: &str,
+    quiet: bool,
+) -> io::Result<()> {
     let mut store = [0u8; 2354];
-    let fd = os::open_read(path);
-    if fd < 0 {
-        os::fail(path);
-        return;
+    match fs::open(rt, path) {
+        Ok(file) => {
+            let mut file = file;
+            watch(rt, &mut file, path, quiet, &mut store)
+        }
+        Err(error) => fail(rt, path, error),
     }
-    watch(fd, path, quiet, &mut store);
-    libc::close(fd);
 }
 
-fn watch_input(quiet: bool) {
+fn watch_input(rt: &HostRuntime, quiet: bool) -> io::Result<()> {
     let mut store = [0u8; 2354];
-    watch(STDIN_FILENO, b"standard input", quiet, &mut store);
+    watch(rt, &mut rt.stdin(), "standard input", quiet, &mut store)
 }
 
-fn usage() {
-    io::write_all(
-        STDERR_FILENO,
-        b"usage: monitor [-c] [FILE]    (MIDI bytes of FILE or of standard input; -c hides clock and active sensing)\n",
-    );
+fn usage(rt: &impl Eprint) -> io::Result<()> {
+    rt.eprintln(
+        "usage: monitor [-c] [FILE]    (MIDI bytes of FILE or of standard input; -c hides clock and active sensing)",
+    )
 }
 
 // Is an argument the word that hides clock and active sensing?
@@ -183,48 +244,48 @@ fn is_quiet(word: &[u8]) -> bool {
 }
 
 // A file by name; a word that begins with a hyphen names none.
-fn watch_named(word: &[u8], quiet: bool) {
-    if octets::byte_at(word, 0) == 45 {
-        usage();
-        return;
+fn watch_named<R: Print + Eprint + Alloc + Files>(
+    rt: &R,
+    word: &str,
+    quiet: bool,
+) -> io::Result<()> {
+    if octets::byte_at(word.as_bytes(), 0) == 45 {
+        return usage(rt);
     }
-    watch_file(word, quiet);
+    watch_file(rt, word, quiet)
 }
 
 // The argument of a number, which is there, as the file to watch.
-fn watch_argument(i: usize, quiet: bool) {
-    let mut word = io::buffer();
-    let length = os::arg(i, &mut word);
-    if os::errno() != 0 {
-        os::fail(b"argument");
-        return;
+fn watch_argument<R: Print + Eprint + Alloc + Files>(
+    rt: &R,
+    words: &[String],
+    i: usize,
+    quiet: bool,
+) -> io::Result<()> {
+    match words.get(i) {
+        Some(word) => watch_named(rt, word.as_str(), quiet),
+        None => usage(rt),
     }
-    watch_named(&word[..length], quiet);
 }
 
-fn main() {
-    let count = os::arg_count();
-    let mut word = io::buffer();
-    let length = os::arg(1, &mut word);
+fn main(rt: HostRuntime) -> io::Result<()> {
+    let args: Vec<String> = env::args(&rt)?.collect(rt.alloc())?;
+    let words = args.as_slice();
+    let count = words.len();
     if count < 2 {
-        watch_input(false);
-        return;
+        return watch_input(&rt, false);
     }
-    if is_quiet(&word[..length]) {
+    if is_quiet(words[1].as_bytes()) {
         if count == 2 {
-            watch_input(true);
-            return;
+            return watch_input(&rt, true);
         }
         if count == 3 {
-            watch_argument(2, true);
-            return;
+            return watch_argument(&rt, words, 2, true);
         }
-        usage();
-        return;
+        return usage(&rt);
     }
     if count == 2 {
-        watch_argument(1, false);
-        return;
+        return watch_argument(&rt, words, 1, false);
     }
-    usage();
+    usage(&rt)
 }
