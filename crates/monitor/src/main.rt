@@ -124,16 +124,6 @@ fn take(
     Ok(now)
 }
 
-// Says what failed, as the caller names it, and the system's words for why, without the number behind them.
-fn fail(rt: &(impl Eprint + Alloc), what: &str, error: io::Error) -> io::Result<()> {
-    let said = format!(in rt.alloc(); "{error}")?;
-    let why = match said.as_str().split_once(" (os error ") {
-        Some((words, _)) => words,
-        None => said.as_str(),
-    };
-    eprintln!(rt; "{what}: {why}")
-}
-
 // Reads one piece and takes it. The place that comes back is 0 where nothing more came.
 fn piece<R: Print + Eprint + Alloc>(
     rt: &R,
@@ -147,7 +137,7 @@ fn piece<R: Print + Eprint + Alloc>(
     match input.read(&mut bytes) {
         Ok(n) => take(rt, seen, store, &bytes[..n], quiet),
         Err(error) => {
-            fail(rt, path, error)?;
+            text::failures::fail(rt, path, error)?;
             Ok(seen)
         }
     }
@@ -219,11 +209,8 @@ fn watch_file<R: Print + Eprint + Alloc + Files>(
 ) -> io::Result<()> {
     let mut store = [0u8; 2354];
     match fs::open(rt, path) {
-        Ok(file) => {
-            let mut file = file;
-            watch(rt, &mut file, path, quiet, &mut store)
-        }
-        Err(error) => fail(rt, path, error),
+        Ok(mut file) => watch(rt, &mut file, path, quiet, &mut store),
+        Err(error) => text::failures::fail(rt, path, error),
     }
 }
 

@@ -46,16 +46,6 @@ fn count(tally: &mut [u64], at: usize) {
     }
 }
 
-// Says what failed, as the caller names it, and the system's words for why, without the number behind them.
-fn fail(rt: &(impl Eprint + Alloc), what: &str, error: io::Error) -> io::Result<()> {
-    let said = format!(in rt.alloc(); "{error}")?;
-    let why = match said.as_str().split_once(" (os error ") {
-        Some((words, _)) => words,
-        None => said.as_str(),
-    };
-    eprintln!(rt; "{what}: {why}")
-}
-
 // The record's number and request, what was got, and what was recorded.
 fn show(rt: &impl Print, record: u64, ask: &[u8], got: &[u8], want: &[u8]) -> io::Result<()> {
     print!(rt; "record {record} differs: ")?;
@@ -137,7 +127,7 @@ fn replay_at<R: Print + Eprint + Alloc>(
     match file.read_at(&mut bytes, place) {
         Ok(n) => replay_first(rt, record, &bytes[..n], tally),
         Err(error) => {
-            fail(rt, path, error)?;
+            text::failures::fail(rt, path, error)?;
             Ok(0)
         }
     }
@@ -202,7 +192,7 @@ fn replay_file(rt: &HostRuntime, path: &str) -> io::Result<()> {
             replay_all(rt, &file, path, &mut tally)?;
             tell_all(rt, path, &tally)
         }
-        Err(error) => fail(rt, path, error),
+        Err(error) => text::failures::fail(rt, path, error),
     }
 }
 

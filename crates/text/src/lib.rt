@@ -2,6 +2,7 @@
 // A list of names is one text, with a bar between two names.
 #![tactic(auto)]
 
+pub mod failures;
 pub mod refusals;
 
 // One byte.

@@ -1,0 +1,17 @@
+// Why a call on a file failed, as a line on standard error.
+use std::io;
+
+// The system's words, without the error's number that stands behind them.
+fn reason(said: &str) -> &str {
+    match said.split_once(" (os error ") {
+        Some((words, _)) => words,
+        None => said,
+    }
+}
+
+// What failed, as the caller names it, a colon and the system's words for why.
+pub fn fail(rt: &(impl Eprint + Alloc), what: &str, error: io::Error) -> io::Result<()> {
+    let said = format!(in rt.alloc(); "{error}")?;
+    let why = reason(said.as_str());
+    eprintln!(rt; "{what}: {why}")
+}
