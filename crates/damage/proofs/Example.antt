@@ -71,10 +71,10 @@ worked_calls short = refl
 
 -- the note is hit; the frame and the program change are untouched, and end with the bytes at places 7 and 9 of what arrives. Nine bytes hold
 -- the first of the two reports
-pub worked-untouched :
+pub worked_untouched :
     (untouched_reports 1 2 (0xF0 ∷ 0x07 ∷ []) (sent_messages messages (own_places is_sent 0))
     ≡ record { place = 7; report = gives (frame (0xF0 ∷ 0x01 ∷ 0x02 ∷ 0xF7 ∷ [])) }
     ∷ record { place = 9; report = gives (channel (record { 0 = 1 }) (w.ProgramChange 5)) } ∷ [])
     × (within 9 (untouched_reports 1 2 (0xF0 ∷ 0x07 ∷ []) (sent_messages messages (own_places is_sent 0)))
     ≡ record { place = 7; report = gives (frame (0xF0 ∷ 0x01 ∷ 0x02 ∷ 0xF7 ∷ [])) } ∷ [])
-worked-untouched = (refl, refl)
+worked_untouched = (refl, refl)

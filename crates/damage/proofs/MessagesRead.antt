@@ -1,4 +1,4 @@
--- Every in_range message is read whole, because its own status byte forgets what came before it and nothing in it is masked away.
+-- Every in-range message is read whole, because its own status byte forgets what came before it and nothing in it is masked away.
 use mathlib.Core.Path.{◌≡◌, refl, sym, ◌∙◌, ap, subst}
 use mathlib.Core.Bool.{Bool, true, false}
 use mathlib.Core.List.{List, [], ◌∷◌, ◌++◌, append_assoc}
@@ -58,7 +58,7 @@ low_four c (w.ProgramChange a) h = omega arith
 low_four c (w.ChannelPressure a) h = omega arith
 low_four c (w.PitchBend a) h = omega arith
 
--- what is known of an in_range channel message
+-- what is known of an in-range channel message
 record Known (c : Channel) (m : ChannelMessage) : Type 0 where
   held : Range k.Held (status_nibble m + c.0)
   takes : data_length (status_nibble m + c.0) ≡ length (data_bytes m)

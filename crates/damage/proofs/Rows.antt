@@ -25,7 +25,7 @@ module _ (store : List ℕ) (room : limit ≤ length store) where
   says bytes = history_is_step [] fresh store bytes (cleared_matches fresh store room)
 
   -- the marked rows (f) to (j): streams from fresh, over any store that is long enough
-  pub marked-rows-f-to-j :
+  pub marked_rows_f_to_j :
       (singly fresh store (0x90 ∷ 0x3C ∷ 0x40 ∷ 0x3C ∷ 0x00 ∷ [])
       ≡ [] ∷ [] ∷ (gives (channel (record { 0 = 0 }) (w.NoteOn 60 64)) ∷ []) ∷ [] ∷ (gives (channel (record { 0 = 0 }) (w.NoteOn 60 0)) ∷ []) ∷ [])
       × (singly fresh store (0xE0 ∷ 0x00 ∷ 0x40 ∷ []) ≡ [] ∷ [] ∷ (gives (channel (record { 0 = 0 }) (w.PitchBend 8192)) ∷ []) ∷ [])
@@ -34,7 +34,7 @@ module _ (store : List ℕ) (room : limit ≤ length store) where
       × (singly fresh store (0xF0 ∷ 0x01 ∷ 0xF6 ∷ []) ≡ [] ∷ [] ∷ (refused 18 [] ∷ gives (common y.TuneRequest) ∷ []) ∷ [])
       × (singly fresh store (0xF2 ∷ 0x01 ∷ 0x02 ∷ 0x05 ∷ []) ≡ [] ∷ [] ∷ (gives (common (y.SongPosition 257)) ∷ []) ∷ [] ∷ [])
   unfolding meaning heard message class_of data_length limit
-  marked-rows-f-to-j = (says _, says _, says _, says _, says _)
+  marked_rows_f_to_j = (says _, says _, says _, says _, says _)
 
 -- F0, so many data bytes, and then these, over a store of 2,354 bytes
 abbrev pub framed : ℕ → List ℕ → List ℕ
@@ -49,15 +49,15 @@ unfolding walk step stored class_of limit
 edge_2352 = (refl, refl)
 
 -- 2,353: F7 drops the frame with 19; any other status byte gives 18
-pub edge-2353 :
+pub edge_2353 :
     ((walk fresh blank (framed 2353 (0xF7 ∷ []))).fed.used ≡ 2355) × ((walk fresh blank (framed 2353 (0xF7 ∷ []))).fed.report ≡ m.Some (r.SysExTooLong 2354))
     × ((walk fresh blank (framed 2353 (0xF6 ∷ []))).fed.used ≡ 2355) × ((walk fresh blank (framed 2353 (0xF6 ∷ []))).fed.interrupted ≡ true)
 unfolding walk step stored class_of limit
-edge-2353 = (refl, refl, refl, refl)
+edge_2353 = (refl, refl, refl, refl)
 
 -- 2,354: the last data byte drops the frame with 19, and no frame is open any more
-pub edge-2354 :
+pub edge_2354 :
     ((walk fresh blank (framed 2354 (0xF6 ∷ []))).fed.used ≡ 2355) × ((walk fresh blank (framed 2354 (0xF6 ∷ []))).fed.report ≡ m.Some (r.SysExTooLong 2354))
     × ((walk fresh blank (framed 2354 (0xF6 ∷ []))).fed.state.in_sysex ≡ false)
 unfolding walk step stored class_of limit
-edge-2354 = (refl, refl, refl)
+edge_2354 = (refl, refl, refl)

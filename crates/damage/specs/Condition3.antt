@@ -12,7 +12,7 @@ pub record Allowed {c : Caller} (i n : ℕ) (new : List ℕ) (sent : List Tag) (
   pub one_each : length caused ≡ length (break_bytes i n new sent)
   pub exactly : Exactly cs (around_break i n new sent caused) log
 
--- CONDITION 3. "A sender writes in_range channel, common and frame messages, each with its own status byte and at most 2,354 bytes long;
+-- CONDITION 3. "A sender writes in-range channel, common and frame messages, each with its own status byte and at most 2,354 bytes long;
 -- real-time bytes stand anywhere": the first line. "Whatever was sent, whichever run is hit and whatever arrives in its place": the second.
 -- "from a fresh state and any store long enough, whatever it holds", "for every list of decoder calls .., refused ones included and in
 -- whatever pieces the bytes are handed in": the rest

@@ -114,10 +114,10 @@ given (gives x) = true
 given (refused n values) = false
 
 -- there are such frames, computed: names frames of 2,356, 2,357 and 2,358 bytes parse, and all are longer than the limit
-pub names-too-long :
+pub names_too_long :
     ((length (names 2346) ≡ 2356) × (given (read_record (names 2346)) ≡ true))
     × ((length (names 2347) ≡ 2357) × (given (read_record (names 2347)) ≡ true))
     × ((length (names 2348) ≡ 2358) × (given (read_record (names 2348)) ≡ true))
     × (limit < 2356)
 unfolding read_record read_run
-names-too-long = ((refl, refl), (refl, refl), (refl, refl), omega (arith, limit_is))
+names_too_long = ((refl, refl), (refl, refl), (refl, refl), omega (arith, limit_is))

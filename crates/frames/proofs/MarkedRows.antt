@@ -14,7 +14,7 @@ use Rattle.wire.specs.declared.real_time.Realtime.TheVariants as t
 use Rattle.decoder.specs.State.{limit, fresh}
 use Rattle.decoder.specs.Reports.{channel, common, realtime, frame}
 use Rattle.damage.specs.Calls.{singly}
-use Rattle.damage.proofs.Rows.{marked-rows-f-to-j}
+use Rattle.damage.proofs.Rows.{marked_rows_f_to_j}
 use Rattle.message.specs.declared.head.Head.TheVariants as h
 use Rattle.frame_reader.specs.Reader.{parsed}
 use Rattle.frames.proofs.Rows.{row_k, row_l}
@@ -49,5 +49,5 @@ pub marked_rows : (store : List ℕ) → limit ≤ length store
     -- (l) F0 00 20 32 20 7F 07 20 F7: refusal 11
     × (parsed (0xF0 ∷ 0x00 ∷ 0x20 ∷ 0x32 ∷ 0x20 ∷ 0x7F ∷ 0x07 ∷ 0x20 ∷ 0xF7 ∷ []) ≡ refused 11 (0x20 ∷ []))
 marked_rows store room =
-    let s = marked-rows-f-to-j store room in
+    let s = marked_rows_f_to_j store room in
     (row_a, row_b, row_c, row_d, row_e, s.0, s.1, s.2, s.3, s.4, row_k, row_l)

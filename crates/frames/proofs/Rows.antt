@@ -30,9 +30,9 @@ pattern_dump n = 0xF0 ∷ 0x00 ∷ 0x20 ∷ 0x32 ∷ 0x20 ∷ 0x00 ∷ 0x08 ∷ 
 
 -- "else prefix plus 8 per started 7 raw (pattern 81)": after v no byte, one below the shortest run, one above the longest; expected
 -- 81 each time, found with the version
-pub pattern-of-wrong-length :
+pub pattern_of_wrong_length :
     (parsed (pattern_dump 0) ≡ refused 7 (0x08 ∷ 81 ∷ 1 ∷ []))
     × (parsed (pattern_dump 74) ≡ refused 7 (0x08 ∷ 81 ∷ 75 ∷ []))
     × (parsed (pattern_dump 84) ≡ refused 7 (0x08 ∷ 81 ∷ 85 ∷ []))
 unfolding read_record read_run
-pattern-of-wrong-length = (refl, refl, refl)
+pattern_of_wrong_length = (refl, refl, refl)

@@ -1,4 +1,4 @@
--- The ranges by which the code tells what a status takes are those of `dataLength`.
+-- The ranges by which the code tells what a status takes are those of `data_length`.
 use mathlib.Core.Path.{◌≡◌, refl, sym, ap, ap₂, subst, ◌∙◌}
 use mathlib.Core.Bool.{Bool, true, false, ◌&&◌, not}
 use Prim.Native.Nat.{ℕ, ◌/◌, ◌%◌, ◌≤◌, ◌<◌}

@@ -1,4 +1,4 @@
--- What a writer wrote from in_range values reads back as the same message, because nothing is masked away and the status byte's
+-- What a writer wrote from in-range values reads back as the same message, because nothing is masked away and the status byte's
 -- high four bits tell the kind.
 use mathlib.Core.Path.{◌≡◌, refl, ap, ap₂}
 use mathlib.Core.Bool.{true, ◌&&◌}
@@ -38,7 +38,7 @@ kind k c h = omega arith
 seven : (a : ℕ) → a ≤ 127 → a % 128 % 128 ≡ a
 seven a h = omega arith
 
--- channel messages: in_range message, channel below 16
+-- channel messages: in-range message, channel below 16
 pub channel_reads_back : (c : ℕ) (m : ChannelMessage) → c < 16 → message_in_range m ≡ true
     → channel_message (status_nibble m + c) (get_or (data_bytes m) 0 0) (get_or (data_bytes m) 1 0) ≡ o.Some m
 channel_reads_back c (m.NoteOff a b) h r = let d = both_small a b r in rw (kind 0x8 c h) (ap₂ (λ (x y : ℕ). o.Some (m.NoteOff x y)) (seven a d.0) (seven b d.1))
