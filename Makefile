@@ -1,62 +1,43 @@
 # The two commands: `make monitor` shows a sample in words, `make test` is the whole gate from nothing.
-# `make test` asks for the kit and the layout, runs `rt ci`, and then the tests that stand outside Rattle over what rt ci proved; rt ci's last
-# line, 'N passed, 0 failed', is printed behind all of them, and only if all passed. What needs Rust, a C compiler, valgrind or the original's
-# sources is skipped aloud where they are missing; with CI=true they must be there.
+# `make test` asks for the kit, runs `rt ci`, and then the tests that stand outside Rattle over what rt ci proved; rt ci's last line,
+# 'N passed, 0 failed', is printed behind all of them, and only if all passed and no must-fail edit was bad. What needs Rust, a C compiler,
+# valgrind or the original's sources is skipped aloud where they are missing; with CI=true they must be there.
 
-KIT := rattle-kit-5b-plain logic 097e4c862dff5811
+KIT := rattle-kit-13f logic dac8208d650f15bf
 SOURCES := $(or $(DEEPMIND_SRC),../shared/docs/src)
 export DEEPMIND_SRC := $(abspath $(SOURCES))
-HOST := $(patsubst crates/%/src/lib.rt,%,$(shell grep -ls no_mangle crates/*/src/lib.rt))
-BELOW := $(sort $(filter-out $(HOST),$(foreach name,$(HOST),$(shell sed -n 's/^$(name)://p' crates.txt))))
 LIBRARY := target/staticlib/libcobnutdrill.a
+PROVED := crates.txt $(shell find crates -type f -not -path '*/out/*')
 # What make itself is called: $(MAKE) in a recipe would run that line under `make -n` too.
 SELF := $(MAKE)
 CARGO := RUSTFLAGS="-D warnings" cargo
 IN_COMPARE := --quiet --release --offline --manifest-path compare/Cargo.toml --target-dir target/compare
 ORIGINAL := the comparison with the original Rust (DEEPMIND_SRC names its sources)
 
-# So many checks at a time, of 0.3 to 0.8 GB each: rt waits for the longest of each batch, and four at a time wait less than two.
-RT_JOBS ?= 4
-export RT_JOBS
-
-# Proves crates and says how far it is. The gate sets AS_PROVED: what its rt ci proved is then taken as it is, and nothing is proved again.
-prove = .ci/prove $(if $(AS_PROVED),--as-proved)
-
 # Ends a recipe where a tool or a folder is missing: well where that may be, and badly with CI=true.
 need = { .ci/need $(1); case $$? in 0) ;; 1) exit 0 ;; *) exit 1 ;; esac; }
 need_sources = $(call need,"$(ORIGINAL)" "$(SOURCES)/deepmind-midi")
 
-.PHONY: check test kit layout outside test-gate lib bench compare compare-all benchmark stack host test-rust test-host test-stack record recorded monitor test-monitor picture
+.PHONY: check test kit outside test-gate lib bench compare compare-all benchmark stack host test-rust test-host test-stack record recorded monitor test-monitor picture
 
 check: kit
-	@rt check
+	@rt all check
 
-test: kit layout
-	@.ci/gate 'rt ci' 'MAKEFLAGS= $(SELF) --no-print-directory AS_PROVED=yes outside'
+test: kit
+	@.ci/gate 'rt ci' 'MAKEFLAGS= $(SELF) --no-print-directory outside'
 
 # The kit that the proofs were checked with.
 kit:
 	@said=$$(rt version) || { echo "make: the Rattle kit's command rt is needed" >&2; exit 1; }; \
 	[ "$$said" = "$(KIT)" ] || { echo "make: this is checked with '$(KIT)', and rt version says '$$said'" >&2; exit 1; }
 
-layout:
-	@rt fmt --check
-
-# The archive for C and Rust to link: the entry points of every crate host_*. The crates below them are proved first, some at a time; the
-# archives follow one after another, since two rt in one folder read each other's half-written verdicts.
+# The archive for C and Rust to link: the static library cobnutdrill, whose exports are the entry points of every crate host_*.
 lib: kit $(LIBRARY)
 
-$(LIBRARY): $(shell find crates crates.txt -type f)
-	@command -v ar > /dev/null || { echo "make: ar is needed (binutils)" >&2; exit 1; }
-	@mkdir -p target/objects
-	@$(prove) target/lib.log $(BELOW) $(if $(AS_PROVED),$(HOST))
-	@for name in $(HOST); do \
-		echo "make: archive $$name"; \
-		rt staticlib $$name > target/objects/$$name.log 2>&1 || { tail -n 40 target/objects/$$name.log >&2; exit 1; }; \
-		(cd target/objects && ar x ../staticlib/lib$$name.a) || exit 1; \
-	done
-	@rm -f $@
-	@ar rcs $@ $(HOST:%=target/objects/%.o)
+$(LIBRARY): $(PROVED)
+	@mkdir -p $(dir $@)
+	@.ci/prove target/lib.log cobnutdrill
+	@cp crates/cobnutdrill/out/$(notdir $@) $@
 
 # The bench's programs: over the engine at target/bench, and over the original at target/bench-origin where its sources are at hand.
 bench: lib
@@ -141,9 +122,10 @@ recorded:
 	target/compare/release/record altered | cmp - crates/replay/data/altered
 
 # The monitor, at target/bin/monitor.
-target/bin/monitor: $(shell find crates crates.txt -type f)
-	@mkdir -p target
-	@$(prove) target/monitor.log monitor
+target/bin/monitor: $(PROVED)
+	@mkdir -p $(dir $@)
+	@.ci/prove target/monitor.log monitor
+	@cp crates/monitor/out/monitor $@
 
 # The monitor over a sample: make monitor SAMPLE=FILE.
 SAMPLE ?= examples/pulled.syx

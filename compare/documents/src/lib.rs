@@ -6,5 +6,5 @@ mod picture;
 mod sources;
 
 pub use page::{blocks, headings, links, slug, Block};
-pub use picture::picture;
+pub use picture::{picture, programs};
 pub use sources::Sources;

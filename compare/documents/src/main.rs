@@ -1,5 +1,6 @@
-//! Draws the crates: reads crates.txt, and writes the picture to standard output.
+//! Draws the crates: reads crates.txt and which of crates/ are programs, and writes the picture to standard output.
 
+use std::path::Path;
 use std::process::ExitCode;
 
 fn main() -> ExitCode {
@@ -10,7 +11,8 @@ fn main() -> ExitCode {
     };
     match std::fs::read_to_string(path) {
         Ok(text) => {
-            print!("{}", documents::picture(&text));
+            let folder = Path::new(path).parent().unwrap_or(Path::new(""));
+            print!("{}", documents::picture(&text, &documents::programs(folder)));
             ExitCode::SUCCESS
         }
         Err(error) => {

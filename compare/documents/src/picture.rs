@@ -2,6 +2,8 @@
 
 use std::collections::{BTreeMap, BTreeSet};
 use std::fmt::Write;
+use std::fs;
+use std::path::Path;
 
 const WIDTH: f64 = 1080.0;
 const MARGIN: f64 = 16.0;
@@ -12,20 +14,24 @@ const LETTER: f64 = 7.6;
 const GAP: f64 = 12.0;
 const SWEEPS: usize = 60;
 
-/// Each crate of crates.txt with the crates that it names; the kit's own, which have no line there, are left out. `os` tells a program.
+/// Each crate of crates.txt with the crates that it names; the kit's own, which have no line there, are left out. What C calls: a crate host_NAME,
+/// and the static library, which its line says.
 struct Crates {
     needs: BTreeMap<String, BTreeSet<String>>,
     programs: BTreeSet<String>,
+    exports: BTreeSet<String>,
 }
 
-fn read(text: &str) -> Crates {
-    let lines = text.lines().filter(|line| !line.starts_with('#')).filter_map(|line| line.split_once(':'));
+fn read(text: &str, programs: &BTreeSet<String>) -> Crates {
+    let lines = || text.lines().filter(|line| !line.starts_with('#')).filter_map(|line| line.split_once(':'));
+    let first = |words: &str| words.split_whitespace().next().unwrap_or_default().to_string();
     let all: BTreeMap<String, BTreeSet<String>> =
-        lines.map(|(name, needs)| (name.trim().to_string(), needs.split_whitespace().map(str::to_string).collect())).collect();
-    let programs = all.iter().filter(|(_, needs)| needs.contains("os")).map(|(name, _)| name.clone()).collect();
+        lines().map(|(name, needs)| (first(name), needs.split_whitespace().map(str::to_string).collect())).collect();
+    let exports = lines().map(|(name, _)| name).filter(|name| name.starts_with("host_") || name.ends_with(" staticlib")).map(first).collect();
+    let programs = programs.intersection(&all.keys().cloned().collect()).cloned().collect();
     let known: BTreeSet<String> = all.keys().cloned().collect();
     let needs = all.into_iter().map(|(name, needs)| (name, needs.intersection(&known).cloned().collect())).collect();
-    Crates { needs, programs }
+    Crates { needs, programs, exports }
 }
 
 impl Crates {
@@ -247,7 +253,7 @@ fn joint(drawing: &Drawing, at: usize, other: usize) -> f64 {
 
 /// A box's fill and edge: entry points for C, programs, and all others.
 fn shade(crates: &Crates, name: &str) -> (&'static str, &'static str) {
-    if name.starts_with("host_") {
+    if crates.exports.contains(name) {
         ("#fde7c7", "#b7791f")
     } else if crates.programs.contains(name) {
         ("#d9ecd3", "#4d8b3a")
@@ -262,10 +268,17 @@ fn boxed(svg: &mut String, x: f64, y: f64, half: f64, (fill, edge): (&str, &str)
     writeln!(svg, r#"<text x="{x:.0}" y="{middle:.0}" text-anchor="middle">{text}</text>"#).expect("a line");
 }
 
-/// The crates of crates.txt as an SVG: the lowest layer at the bottom.
+/// Which crates are programs: those of the folder crates/, beside crates.txt, whose root is src/main.rt.
 #[must_use]
-pub fn picture(text: &str) -> String {
-    let crates = read(text);
+pub fn programs(folder: &Path) -> BTreeSet<String> {
+    let crates = fs::read_dir(folder.join("crates")).into_iter().flatten().filter_map(Result::ok);
+    crates.filter(|entry| entry.path().join("src/main.rt").is_file()).map(|entry| entry.file_name().to_string_lossy().into_owned()).collect()
+}
+
+/// The crates of crates.txt, some of them programs, as an SVG: the lowest layer at the bottom.
+#[must_use]
+pub fn picture(text: &str, programs: &BTreeSet<String>) -> String {
+    let crates = read(text, programs);
     let drawing = drawing(&crates);
     let top = |level: usize| MARGIN + LAYER * f64::from(u32::try_from(drawing.layers.len() - 1 - level).expect("few layers"));
     let height = top(0) + BOX + 58.0;
@@ -297,9 +310,9 @@ pub fn picture(text: &str) -> String {
             boxed(&mut svg, place.x, top(place.level), place.half, shade(&crates, name), name);
         }
     }
-    let legend = [("laws", "library"), ("host_", "entry points for C"), ("", "programs")];
-    for ((name, text), x) in legend.into_iter().zip([90.0, 260.0, 430.0]) {
-        let name = if name.is_empty() { crates.programs.first().map_or("", String::as_str) } else { name };
+    let one_of = |set: &BTreeSet<String>| set.first().cloned().unwrap_or_default();
+    let legend = [("laws".to_string(), "library"), (one_of(&crates.exports), "entry points for C"), (one_of(&crates.programs), "programs")];
+    for ((name, text), x) in legend.iter().zip([90.0, 260.0, 430.0]) {
         boxed(&mut svg, x, height - BOX - 14.0, 74.0, shade(&crates, name), text);
     }
     let y = height - 14.0 - BOX / 2.0 + 4.5;

@@ -1,26 +1,34 @@
 //! The picture in docs/ is the one that crates.txt gives.
 
+use std::collections::BTreeSet;
 use std::fs;
-use std::path::Path;
+use std::path::{Path, PathBuf};
 
-use documents::picture;
+use documents::{picture, programs};
+
+fn root() -> PathBuf {
+    Path::new(env!("CARGO_MANIFEST_DIR")).join("../..")
+}
 
 fn text(path: &str) -> String {
-    fs::read_to_string(Path::new(env!("CARGO_MANIFEST_DIR")).join("../..").join(path)).unwrap_or_else(|error| panic!("{path}: {error}"))
+    fs::read_to_string(root().join(path)).unwrap_or_else(|error| panic!("{path}: {error}"))
 }
 
 #[test]
 fn the_picture_is_current() {
-    assert!(picture(&text("crates.txt")) == text("docs/crates.svg"), "docs/crates.svg is another picture: make picture");
+    let programs = programs(&root());
+    assert_eq!(programs.iter().map(String::as_str).collect::<Vec<_>>(), ["monitor", "replay"]);
+    assert!(picture(&text("crates.txt"), &programs) == text("docs/crates.svg"), "docs/crates.svg is another picture: make picture");
 }
 
 #[test]
 fn another_list_is_another_picture() {
-    let crates = text("crates.txt");
-    for (from, to) in [("host_wire:", "host_wires:"), ("ids: refusal laws", "ids: octets laws"), ("io libc os", "io libc")] {
+    let (crates, programs) = (text("crates.txt"), programs(&root()));
+    for (from, to) in [("host_wire:", "host_wires:"), ("ids: refusal laws", "ids: octets laws"), (" staticlib:", ":")] {
         assert!(crates.contains(from), "'{from}' is not in crates.txt");
-        assert!(picture(&crates.replacen(from, to, 1)) != picture(&crates), "'{to}' for '{from}' makes no difference");
+        assert!(picture(&crates.replacen(from, to, 1), &programs) != picture(&crates, &programs), "'{to}' for '{from}' makes no difference");
     }
+    assert!(picture(&crates, &BTreeSet::new()) != picture(&crates, &programs), "that a crate is a program makes no difference");
 }
 
 /// What is between `mark` and the next `"`, in every line that has it.
@@ -32,9 +40,13 @@ fn numbers(svg: &str, mark: &str) -> Vec<f64> {
 #[test]
 fn the_boxes_lie_apart() {
     let crates = text("crates.txt");
-    let svg = picture(&crates);
+    let svg = picture(&crates, &programs(&root()));
     let (x, y, wide) = (numbers(&svg, " x=\""), numbers(&svg, " y=\""), numbers(&svg, " width=\""));
-    let names = crates.lines().filter(|line| !line.starts_with('#')).filter_map(|line| line.split_once(':')).map(|(name, _)| name);
+    let names = crates
+        .lines()
+        .filter(|line| !line.starts_with('#'))
+        .filter_map(|line| line.split_once(':'))
+        .filter_map(|(name, _)| name.split_whitespace().next());
     let mut count = 0;
     for name in names {
         assert!(svg.contains(&format!(">{name}</text>")), "{name} has no box");
@@ -52,7 +64,7 @@ fn the_boxes_lie_apart() {
 /// A line for what is needed, and none for what another line implies.
 #[test]
 fn lines_are_not_implied() {
-    let lines = |crates: &str| picture(crates).matches("<path").count();
+    let lines = |crates: &str| picture(crates, &BTreeSet::new()).matches("<path").count();
     assert_eq!(lines("a:\nb: a\nc: b a\n"), 2);
     assert_eq!(lines("a:\nb: a\nc: a\n"), 2);
     assert_eq!(lines("a:\nb: a\nc: a\nd: b c a io\n"), 4);

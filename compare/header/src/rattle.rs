@@ -108,10 +108,14 @@ pub fn engine(sources: &[(String, String)]) -> Side {
     let mut twice = BTreeSet::new();
     for (name, text) in sources {
         let text = without_comments(text);
-        for (call, signature) in each(&text, "#[no_mangle]\npub extern \"C\" fn ", call) {
+        for (call, signature) in each(&text, "#[unsafe(no_mangle)]\npub extern \"C\" fn ", call) {
             assert!(side.calls.insert(call.clone(), signature).is_none(), "twice: {call}");
         }
-        assert_eq!(text.matches("no_mangle").count(), text.matches("#[no_mangle]\npub extern \"C\" fn ").count(), "another form of export in {name}");
+        assert_eq!(
+            text.matches("no_mangle").count(),
+            text.matches("#[unsafe(no_mangle)]\npub extern \"C\" fn ").count(),
+            "another form of export in {name}"
+        );
         records(&text, "#[repr(C)]", &mut side);
         let at_the_boundary = name.starts_with("host") || name == "stream" || name == "held_keys::bytes";
         for (constant, value) in constants(&text) {

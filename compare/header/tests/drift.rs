@@ -95,7 +95,7 @@ fn a_drift_of_the_header_is_seen() {
 #[test]
 fn a_drift_of_the_engine_is_seen() {
     for (from, to) in [
-        ("#[no_mangle]\npub extern \"C\" fn dm_bank(", "pub fn dm_bank("),
+        ("#[unsafe(no_mangle)]\npub extern \"C\" fn dm_bank(", "pub fn dm_bank("),
         ("fn dm_bank(byte: u8)", "fn dm_bank(byte: u16)"),
         ("fn dm_bank(byte: u8)", "fn dm_banks(byte: u8)"),
         ("fn dm_pack(raw: &[u8], out: &mut [u8])", "fn dm_pack(out: &mut [u8], raw: &[u8])"),
