@@ -29,7 +29,6 @@ pub returns-in-Err : goal.returns-in-Err
 returns-in-Err c =
     let if1 = c.if-found-prefix in
     let to-byte = c.to_byte-code in
-    let if2 = c.if-code-eq18 in
     let unpacked-len = c.unpacked_len in
     let a = c.args in
     let p = a.payload.now in
@@ -37,7 +36,7 @@ returns-in-Err c =
     let e : r.result.prefix_len ≡ prefix_length a.command = ap (λ (x : Row). x.prefix_len) r.ensures in
     let n : ℕ = length p - prefix_length a.command in
     let least : prefix_length a.command ≤ length p = omega (arith, e, if1.false) in
-    let code = sym to-byte.ensures ∙ if2.true in
+    let code : code_of a.command ≡ 0x12 = omega (arith, to-byte.ensures) in
     refused_too (not (eqb (n % 8) 1)) 13 (n ∷ []) (unpacked_length n) _ c.in-Err.e (rw e at (ap counted (sym c.in-Err.is) ∙ unpacked-len.ensures))
     ∙ any_run a.command a.version.0 p least code
 
@@ -45,7 +44,6 @@ pub returns-in-Ok : goal.returns-in-Ok
 returns-in-Ok c =
     let if1 = c.if-found-prefix in
     let to-byte = c.to_byte-code in
-    let if2 = c.if-code-eq18 in
     let unpacked-len = c.unpacked_len in
     let a = c.args in
     let p = a.payload.now in
@@ -53,7 +51,7 @@ returns-in-Ok c =
     let e : r.result.prefix_len ≡ prefix_length a.command = ap (λ (x : Row). x.prefix_len) r.ensures in
     let n : ℕ = length p - prefix_length a.command in
     let least : prefix_length a.command ≤ length p = omega (arith, e, if1.false) in
-    let code = sym to-byte.ensures ∙ if2.true in
+    let code : code_of a.command ≡ 0x12 = omega (arith, to-byte.ensures) in
     let given = unpacked_given n c.in-Ok.field-0 (rw e at (ap counted (sym c.in-Ok.is) ∙ unpacked-len.ensures)) in
     c.check_small.ensures ∙ ap small_checked c.front.ensures ∙ sym (fields_tested a.command false p c.requires)
     ∙ rw given.1 at (any_run a.command a.version.0 p least code)
@@ -68,7 +66,7 @@ returns-then-holds c = let a = c.args in
     let is : accepted (raw_length_for a.command a.version.0) (length p - prefix_length a.command) ≡ true =
     rw (c.raw_len-raw_len.ensures, e) at (sym c.holds.ensures ∙ c.if-holds.true) in
     c.check_small-then-holds.ensures ∙ ap small_checked c.front-then-holds.ensures ∙ sym (fields_tested a.command false p c.requires)
-    ∙ sym (run_accepted a.command a.version.0 p least (λ q. c.if-code-eq18.false (code ∙ q)) is)
+    ∙ sym (run_accepted a.command a.version.0 p least (λ q. omega arith) is)
 
 pub returns-then-is_numbered : goal.returns-then-is_numbered
 returns-then-is_numbered c =
@@ -77,7 +75,6 @@ returns-then-is_numbered c =
     let raw-len = c.raw_len-raw_len in
     let holds = c.holds in
     let if3 = c.if-holds in
-    let if2 = c.if-code-eq18 in
     let if4 = c.if-code-eq8 in
     let is-numbered = c.is_numbered in
     let if5 = c.if-is_numbered in
@@ -90,7 +87,7 @@ returns-then-is_numbered c =
     let is : accepted (raw_length_for a.command a.version.0) (length p - prefix_length a.command) ≡ false =
     rw (raw-len.ensures, e) at (sym holds.ensures ∙ if3.false) in
     c.check_small-then-is_numbered.ensures ∙ ap small_checked c.front-then-is_numbered.ensures ∙ sym (fields_tested a.command true p c.requires)
-    ∙ sym (run_numbered a.command a.version.0 p least (λ q. if2.false (code ∙ q)) is (sym code ∙ if4.true) (sym is-numbered.ensures ∙ if5.true))
+    ∙ sym (run_numbered a.command a.version.0 p least (λ q. omega arith) is (sym code ∙ if4.true) (sym is-numbered.ensures ∙ if5.true))
 
 pub returns : goal.returns
 returns c =
@@ -98,7 +95,6 @@ returns c =
     let to-byte = c.to_byte-code in
     let raw-len = c.raw_len-raw_len in
     let holds = c.holds in
-    let if2 = c.if-code-eq18 in
     let a = c.args in
     let p = a.payload.now in
     let r = c.row-prefix in
@@ -112,4 +108,4 @@ returns c =
       | then-code-eq8+else-is_numbered w ↦ rw (eq-eqb _ 0x08 (sym code ∙ w.if-code-eq8.true), sym w.is_numbered.ensures ∙ w.if-is_numbered.false)
       | else-code-eq8 w ↦ rw (ne_eqb _ 0x08 (λ q. w.if-code-eq8.false (code ∙ q)))
     ] in
-    rw (e, code, raw-len.ensures) (run_refused a.command a.version.0 p least (λ q. if2.false (code ∙ q)) is none)
+    rw (e, code, raw-len.ensures) (run_refused a.command a.version.0 p least (λ q. omega arith) is none)
