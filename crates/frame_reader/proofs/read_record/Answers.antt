@@ -14,9 +14,9 @@ returns-in-Some c =
     let a = c.args in
     let is_framed = c.is_framed in
     let if1 = c.if-not-is_framed in
-    let first-high = c.first_high in
+    let first_high = c.first_high in
     let b = a.bytes.now in
-    rw (sym is_framed.ensures ∙ if1.false, ← body_part b, ← first-high.ensures, c.in-Some.is)
+    rw (sym is_framed.ensures ∙ if1.false, ← body_part b, ← first_high.ensures, c.in-Some.is)
 
 pub returns-in-None : goal.returns-in-None
 unfolding read_record
@@ -24,7 +24,7 @@ returns-in-None c =
     let a = c.args in
     let is_framed = c.is_framed in
     let if1 = c.if-not-is_framed in
-    let first-high = c.first_high in
+    let first_high = c.first_high in
     let b = a.bytes.now in
     c.read_header.ensures
-    ∙ rw (sym is_framed.ensures ∙ if1.false, ← body_part b, ← first-high.ensures, c.in-None.is)
+    ∙ rw (sym is_framed.ensures ∙ if1.false, ← body_part b, ← first_high.ensures, c.in-None.is)

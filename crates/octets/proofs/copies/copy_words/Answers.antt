@@ -9,12 +9,12 @@ use Rattle.octets.proofs.copies.copy_words.Goals as goal
 
 pub loop-w-preserved : goal.loop-w-preserved
 loop-w-preserved c =
-    let shared-slice-known = c.type_inv.from in
+    let shared_slice_known = c.type_inv.from in
     let put_word = c.put_word in
     let asked = c.requires in
     let a = c.args in
     let l = c.loop-w in
-    let bytes : ((i : ℕ) → get_or a.from.now i 0 < 256) = λ i. omega (arith, shared-slice-known i) in
+    let bytes : ((i : ℕ) → get_or a.from.now i 0 < 256) = λ i. omega (arith, shared_slice_known i) in
     let w = c.word_at in (
       omega arith,
       l.invariant.1,

@@ -13,8 +13,8 @@ pub loop-i-preserved : goal.loop-i-preserved
 loop-i-preserved c =
     let a = c.args in
     let loop = c.loop-i in
-    let loop-test = c.loop-i-test in
-    run_more a.bytes.now loop.i loop.invariant loop-test.true c.if-bytes-i-ge128.false
+    let loop_test = c.loop-i-test in
+    run_more a.bytes.now loop.i loop.invariant loop_test.true c.if-bytes-i-ge128.false
 
 pub returns : goal.returns
 returns c = omega (arith, run_within c.args.bytes.now, c.loop-i.invariant, c.loop-i-test.false)

@@ -8,7 +8,7 @@ use Rattle.stream.proofs.frame.moved.Goals as goal
 pub returns-then-byte-ge128 : goal.returns-then-byte-ge128
 returns-then-byte-ge128 c =
     let most = c.most in
-    let loop-test = c.loop-left-test in
+    let loop_test = c.loop-left-test in
     let a = c.args in
     let l = c.loop-left in
     let p = c.requires in
@@ -24,12 +24,12 @@ returns-then-byte-ge128 c =
     moving_stops a.start a.from n store bytes room there l.at l.used l.left l.store
     (moved_then a.start a.from n m.result.at m.result.used m.result.left l.at l.used l.left store m.new.store
     l.store bytes room there m.ensures l.invariant)
-    p.1 most.ensures loop-test.true c.if-byte-ge128.true
+    p.1 most.ensures loop_test.true c.if-byte-ge128.true
 
 pub loop-left-preserved : goal.loop-left-preserved
 loop-left-preserved c =
     let most = c.most in
-    let loop-test = c.loop-left-test in
+    let loop_test = c.loop-left-test in
     let a = c.args in
     let l = c.loop-left in
     let p = c.requires in
@@ -43,7 +43,7 @@ loop-left-preserved c =
     let room₁ : m.result.at + m.result.left ≤ length m.new.store = omega (arith, m.ensures.place, m.ensures.rest, room, long) in
     let there₁ : m.result.used + m.result.left ≤ length a.bytes.now = omega (arith, m.ensures.next, m.ensures.rest, there) in
     moving_byte m.result.at m.result.used m.result.left m.new.store bytes room₁ there₁ l.at l.used l.left l.store
-    l.invariant loop-test.true c.if-byte-ge128.false
+    l.invariant loop_test.true c.if-byte-ge128.false
 
 pub returns : goal.returns
 returns c =
