@@ -91,7 +91,7 @@ row_at_place k n d e =
 pub place_in_table : (k : Command) → place_of k < 22
 place_in_table k = ltb-true (place_of k) 22 (of_every (λ j. ltb (place_of j) 22) refl k)
 
--- and a command that was read has the code that was read
+-- a command that was read from a byte has that byte as its code
 pub read_code : (ks : List Command) (b : ℕ) (k : Command) → among ks b ≡ gives k → code_of k ≡ b
 read_code [] b k e = absurd (given_not_refused k 6 (b ∷ []) e)
 read_code (j ∷ js) b k e = go (eqb b (code_of j)) refl (read_code js b k) e
@@ -135,7 +135,7 @@ versioned program_data = true
 versioned (fixed n) = false
 versioned any = false
 
--- if it is not, the table has it
+-- a run whose raw length is not the version's has its length in the table
 table_length_lem : (r : Run) (v : ℕ) → versioned r ≡ false → table_length r ≡ run_length r v
 table_length_lem none v h = refl
 table_length_lem program_data v h = absurd (true_is_not_false h)

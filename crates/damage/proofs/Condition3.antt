@@ -74,7 +74,7 @@ begun_read t ts us low high r w past =
     (lead.0 ∙ ap (λ (x : List Reported). interruption (is_open v xs) ++ x) r.0 ∙ in_front_lem (is_open v xs) t.intact)
     (woven w (b ∷ past) (rw (same.0 ∙ lead.1, same.1 ∙ lead.2) r.1))
 
--- from the first message on
+-- what is sent from the first whole message on reads intact behind any bytes, led by one 18 if a frame is open there
 rest_read : (ms : List Message) → all_sendable ms ≡ true → (j : ℕ) (us : List Tag) → Sent (drop j (all_tagged ms)) us → (past : List ℕ)
     → meaning past (bytes (from_first us)) ≡ led (open_at past) (intacts (from_first us))
 unfolding meaning
@@ -122,7 +122,7 @@ history_of_damage ms ok sent w i n new =
         ap (meaning []) (map_take (λ (t : Tag). t.byte) sent i) ∙ meaning_take [] (bytes sent) i
         ∙ ap (take i) (woven w [] (messages_read ms ok 0 [] refl)) ∙ sym (map_take (λ (t : Tag). t.intact) sent i)
 
--- what the break causes: one entry for each byte of the break
+-- history has one entry for each byte
 meaning_length : (past xs : List ℕ) → length (meaning past xs) ≡ length xs
 unfolding meaning
 meaning_length past [] = refl

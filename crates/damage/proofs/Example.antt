@@ -25,7 +25,7 @@ use Rattle.damage.proofs.ByValue.{by_value_lem}
 abbrev pub messages : List Message
 messages = Voice (record { 0 = 0 }) (w.NoteOn 60 64) ∷ Frame (1 ∷ 2 ∷ []) ∷ Voice (record { 0 = 1 }) (w.ProgramChange 5) ∷ []
 
--- the clock stands between the note and the frame
+-- what is sent: the clock stands between the note and the frame
 abbrev pub sent : List Tag
 sent =
     record { byte = 0x90; first = true; intact = [] }
@@ -40,7 +40,7 @@ sent =
     ∷ record { byte = 0x05; first = false; intact = gives (channel (record { 0 = 1 }) (w.ProgramChange 5)) ∷ [] }
     ∷ []
 
--- it is what a sender may send
+-- a sender may send the example's bytes: the messages' own, and the clock between two of them
 abbrev pub is_sent : Sent (all_tagged messages) sent
 is_sent = own (own (own (between 0xF8 (omega arith) (own (own (own (own (own (own nothing)))))))))
 

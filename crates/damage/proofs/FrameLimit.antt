@@ -70,7 +70,7 @@ unfolding heard class_of
 end_beyond xs h = rw (lt-ltb (length xs) limit (omega arith), lt-leb (length xs + 2) limit (omega arith))
 
 module _ (xs : List ℕ) (ok : seven_bit xs ≡ true) where
-  -- what stands ahead of the byte behind F0 and these
+  -- behind F0 and data bytes the last status byte is F0, and the data are those bytes
   status_is : last_status (past_after (0xF0 ∷ []) xs) ≡ 0xF0
   status_is = (data_ahead xs (0xF0 ∷ []) ok).0
 
@@ -98,7 +98,7 @@ module _ (xs : List ℕ) (ok : seven_bit xs ≡ true) where
       ∙ ap (λ (l : List (List Reported)). quiet (suc (length xs)) ++ l)
       (heard_behind 0xF7 [] ∙ ap (λ (x : List Reported). x ∷ []) (end_fits xs (omega arith)))
 
-  -- the limit less 1: the frame is open at the next byte, and F7 drops it with 19
+  -- the limit less 1 data bytes: the frame is open at the next byte, and F7 drops it with 19
   pub one_fewer : length xs + 1 ≡ limit
       → (open_at (past_after (0xF0 ∷ []) xs) ≡ true) × (meaning [] (0xF0 ∷ xs ++ (0xF7 ∷ [])) ≡ quiet (suc (length xs)) ++ ((report19 ∷ []) ∷ []))
   unfolding meaning
@@ -108,7 +108,7 @@ module _ (xs : List ℕ) (ok : seven_bit xs ≡ true) where
         ∙ ap (λ (l : List (List Reported)). quiet (suc (length xs)) ++ l) (heard_behind 0xF7 [] ∙ ap (λ (x : List Reported). x ∷ []) (end_beyond xs e)),
   )
 
-  -- as many as the limit: the last of them drops the frame with 19, no frame is open any more, and further data bytes are ignored
+  -- as many data bytes as the limit: the last of them drops the frame with 19, no frame is open any more, and further data bytes are ignored
   pub as_many : (b : ℕ) (ys : List ℕ) → length xs + 1 ≡ limit → b < 0x80 → seven_bit ys ≡ true
       → (meaning [] (0xF0 ∷ xs ++ (b ∷ ys)) ≡ quiet (suc (length xs)) ++ ((report19 ∷ []) ∷ quiet (length ys)))
       × (open_at (past_after (b ∷ past_after (0xF0 ∷ []) xs) ys) ≡ false)

@@ -37,7 +37,7 @@ pub record Hears (c : Caller) : Type 1 where
   pub others : (past : Past) (state : c.State) (store : c.Store) (next : c.State) (left : c.Store)
       → Holds past state store → c.Meanwhile state store next left → Holds past next left
 
--- a caller of which that is shown: its list of calls reports, as far as bytes were used, exactly what the bytes say
+-- a list of calls by a caller that hears its bytes reports, as far as bytes were used, exactly what the bytes say
 pub calls_hear : (c : Caller) (x : Hears c) {cs : List (Call c)} {state : c.State} {store : c.Store} {bytes : List ℕ} {log : CallLog}
     → Made c cs state store bytes log → (past : x.Past) → x.Holds past state store → Exactly cs (x.says past bytes) log
 unfolding paced

@@ -122,7 +122,7 @@ module _ (v : ℕ) (xs : List ℕ) (d : Decoder) (store : List ℕ) (g : Matches
       let inside : d.len < length store = omega (arith, g.room) in
       rw add-one (take-suc-set store d.len b inside ∙ ap (λ (n : List ℕ). n ++ (b ∷ [])) (g.framed e).front)
 
-  -- the open frame takes the byte
+  -- a data byte that the limit has room for joins the open frame
   data_in : is_open v xs ≡ true → d.len < limit → Good k.Data v xs b (silent (longer d)) (set store d.len b)
   data_in e l =
       let f = g.framed e in
@@ -137,7 +137,7 @@ module _ (v : ℕ) (xs : List ℕ) (d : Decoder) (store : List ℕ) (g : Matches
         },
       )
 
-  -- it was the byte beyond the limit
+  -- a data byte beyond the limit drops the open frame with 19
   data_beyond : is_open v xs ≡ true → limit ≤ d.len → Good k.Data v xs b (too_long d) store
   data_beyond e l =
       let o = open_is v xs e in
@@ -148,7 +148,7 @@ module _ (v : ℕ) (xs : List ℕ) (d : Decoder) (store : List ℕ) (g : Matches
             (ap (λ n. held n (xs ++ (b ∷ []))) o.0 ∙ none.0) (ap (λ n. pending n (xs ++ (b ∷ []))) o.0 ∙ none.1) g.room,
       )
 
-  -- no frame is open
+  -- a data byte where no frame is open
   data_outside : is_open v xs ≡ false → Good k.Data v xs b (collect d.status d b) store
   data_outside e =
       let n = data_next v xs d b store (g.plain e) in (
@@ -225,7 +225,7 @@ module _ (v : ℕ) (xs : List ℕ) (d : Decoder) (store : List ℕ) (g : Matches
 pub cleared_matches : (d : Decoder) (store : List ℕ) → limit ≤ length store → Matches 0 [] (cleared d) store
 cleared_matches d store room = closed_at 0 [] d store refl (rw (none_of_data 0 (omega arith))) (nothing_pending 0) room
 
--- one byte
+-- one byte reports what history says, and leaves a state that holds what history then knows
 pub byte_is_step : (v : ℕ) (xs : List ℕ) (d : Decoder) (store : List ℕ) (b : ℕ) → Matches v xs d store
     → (reports_in (step d b) (stored d store b) ≡ heard v xs b)
     × Matches (next_status (class_of b) v b) (next_data (class_of b) xs b) (step d b).state (stored d store b)

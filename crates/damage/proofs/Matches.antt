@@ -88,7 +88,7 @@ last_is xs b = rw (length-append xs (b ∷ [])) (ap (λ (n : ℕ). get_or (xs ++
 abbrev pub Next : ℕ → List ℕ → ℕ → List ℕ → Stepped → Type 0
 Next v xs b store x = (told_all store (report_list x.interrupted x.report) ≡ heard_data v xs b) × Outside v (xs ++ (b ∷ [])) x.state
 
--- the message is whole
+-- the data byte that makes a message whole
 module _ (v : ℕ) (xs : List ℕ) (d : Decoder) (b : ℕ) (store : List ℕ) where
   whole : (first second a z : ℕ) → heard_data v xs b ≡ message v a z → kept v ≡ held v (xs ++ (b ∷ [])) → pending v (xs ++ (b ∷ [])) ≡ 0
       → Next v xs b store (record { state = completed v first second; interrupted = false; report = message_report v a z })
@@ -97,7 +97,7 @@ module _ (v : ℕ) (xs : List ℕ) (d : Decoder) (b : ℕ) (store : List ℕ) wh
     record { outside = refl; force = k; have = sym p; first = λ q. absurd (omega arith) },
   )
 
-  -- one byte waits for the second
+  -- the first data byte waits for the second
   waits : heard_data v xs b ≡ [] → held v (xs ++ (b ∷ [])) ≡ s.Status v → pending v (xs ++ (b ∷ [])) ≡ 1
       → Next v xs b store (record { state = waiting d v b; interrupted = false; report = m.None })
   waits e k p = (sym e, record { outside = refl; force = sym k; have = sym p; first = λ q. sym (last_is xs b) })

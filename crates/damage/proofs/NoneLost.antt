@@ -49,7 +49,7 @@ from_is (t ∷ ts) = let rest = from_is ts in split t.first (λ e. rw e) (λ e. 
 intact_at : (ts : List Tag) (k : ℕ) → get_or (intacts ts) k [] ≡ (get_or ts k no_tag).intact
 intact_at ts k = get_or-map (λ (t : Tag). t.intact) ts k no_tag
 
--- these reports stand at their bytes, from a place on, each behind the one ahead of it
+-- placed reports that each stand at the byte of their place, from a place on and in rising order
 abbrev Found : List (List Reported) → ℕ → List Placed → Type 0
 Found rs low [] = Unit {0}
 Found rs low (x ∷ xs) = (low ≤ x.place) × Has x.report (get_or rs x.place []) × Found rs (suc x.place) xs
@@ -92,7 +92,7 @@ module _ (i n : ℕ) (new : List ℕ) (sent : List Tag) (caused : List (List Rep
   coming : List (List Reported)
   coming = around_break i n new sent caused
 
-  -- a message before the run
+  -- the report of a message before the run arrives at the place where it was sent
   before_has : (p : ℕ) (e : Event) → p < i → p < length sent → (get_or sent p no_tag).intact ≡ gives e ∷ [] → Has (gives e) (get_or coming p [])
   unfolding coming
   before_has p e h inside is =
@@ -102,7 +102,7 @@ module _ (i n : ℕ) (new : List ℕ) (sent : List Tag) (caused : List (List Rep
       get_or-append (intacts (before_run i sent)) _ [] p there ∙ intact_at (take i sent) p ∙ ap (λ (t : Tag). t.intact) (get_or-take i sent p no_tag h) ∙ is in
       subst (λ (l : List Reported). Has (gives e) l) (sym same) (inl refl)
 
-  -- a message wholly after it, which begins at one place and ends at another
+  -- the report of a message wholly after the run arrives as much further on or back as the break is longer or shorter than the run
   after_has : (first p : ℕ) (e : Event) → i + n ≤ first → first ≤ p → p < length sent → (get_or sent first no_tag).first ≡ true
       → (get_or sent p no_tag).intact ≡ gives e ∷ [] → Has (gives e) (get_or coming (p - n + length new) [])
   unfolding coming
@@ -136,7 +136,7 @@ module _ (i n : ℕ) (new : List ℕ) (sent : List Tag) (caused : List (List Rep
   abbrev Side : ℕ → ℕ → Type 0
   Side p q = ((p < i) × (q ≡ p)) ⊎ ((i + n ≤ p) × (q ≡ p - n + length new))
 
-  -- it reports the message
+  -- where an untouched message's last byte arrives, the message is reported
   untouched_has : (low : ℕ) (ps : List ℕ) (e : Event) → At sent low ps e → (all_ahead i ps || none_ahead (i + n) ps) ≡ true
       → Side (last_place ps) (arrives_at i n new (last_place ps)) × Has (gives e) (get_or coming (arrives_at i n new (last_place ps)) [])
   untouched_has low ps e a t = split (all_ahead i ps) ahead behind

@@ -30,7 +30,7 @@ drop_head d (y ∷ l) (suc k) x xs e = let r = drop_head d l k x xs e in let low
 abbrev pub no_tag : Tag
 no_tag = record { byte = 0; first = false; intact = [] }
 
--- these tags stand in what is sent at these places, from a place on, each behind the one ahead of it
+-- a list of tags that stand at a list of places in what is sent, from a place on and in rising order
 abbrev pub Stands : List Tag → ℕ → List ℕ → List Tag → Type 0
 Stands sent low [] [] = Unit {0}
 Stands sent low [] (t ∷ ts) = ⊥
@@ -149,7 +149,7 @@ abbrev marked : List Tag → ℕ → List ℕ
 marked [] k = []
 marked (t ∷ ts) k = pick t.first (k ∷ marked ts (suc k)) (marked ts (suc k))
 
--- those of these tags that are marked first, by their places
+-- the places of those tags in a list that are marked first, for tags with a place each
 abbrev firsts : List Tag → List ℕ → List ℕ
 firsts [] ps = []
 firsts (t ∷ ts) [] = []

@@ -48,14 +48,14 @@ pub edge_2352 : ((walk fresh blank (framed 2352 (0xF7 ∷ []))).fed.used ≡ 235
 unfolding walk step stored class_of limit
 edge_2352 = (refl, refl)
 
--- 2,353: F7 drops the frame with 19; any other status byte gives 18
+-- 2,353 data bytes: F7 drops the frame with 19; F6 breaks it off with 18
 pub edge_2353 :
     ((walk fresh blank (framed 2353 (0xF7 ∷ []))).fed.used ≡ 2355) × ((walk fresh blank (framed 2353 (0xF7 ∷ []))).fed.report ≡ m.Some (r.SysExTooLong 2354))
     × ((walk fresh blank (framed 2353 (0xF6 ∷ []))).fed.used ≡ 2355) × ((walk fresh blank (framed 2353 (0xF6 ∷ []))).fed.interrupted ≡ true)
 unfolding walk step stored class_of limit
 edge_2353 = (refl, refl, refl, refl)
 
--- 2,354: the last data byte drops the frame with 19, and no frame is open any more
+-- 2,354 data bytes: the last of them drops the frame with 19, and no frame is open any more
 pub edge_2354 :
     ((walk fresh blank (framed 2354 (0xF6 ∷ []))).fed.used ≡ 2355) × ((walk fresh blank (framed 2354 (0xF6 ∷ []))).fed.report ≡ m.Some (r.SysExTooLong 2354))
     × ((walk fresh blank (framed 2354 (0xF6 ∷ []))).fed.state.in_sysex ≡ false)

@@ -28,7 +28,7 @@ pub record IsCall {State Answer : Type 0} (used : Answer → Outcome ℕ) (tells
   pub state : next ≡ kept (fed_state (fed_of o) d)
   pub store_is : left ≡ store_of o store
 
--- what has to be shown of such a caller: the form in which it keeps a state, and that each of its calls on a sound one is the decoder's
+-- a thin caller of the decoder: it keeps a state in a form of its own, and each of its calls on a sound state is the decoder's call
 pub record Thin {State Answer : Type 0} (contract : State → List ℕ → List ℕ → Answer → State → List ℕ → Type 0) (used : Answer → Outcome ℕ)
     (tells : Answer → List ℕ → List Reported) : Type 0 where
   pub kept : Decoder → State

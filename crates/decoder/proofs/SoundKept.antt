@@ -40,7 +40,7 @@ held_takes_data b h =
     none_left : 0xF0 ≤ b → (b ≡ 0xF1 → ⊥) → (b ≡ 0xF2 → ⊥) → (b ≡ 0xF3 → ⊥) → ⊥
     none_left l p q r = let n = h.2 in omega arith
 
--- and only such a byte does: 80 to EF, F1 to F3
+-- only a byte that waits for data takes data: 80 to EF, F1 to F3
 pub takes_data_held : (b : ℕ) → 0 < data_length b → Range k.Held b
 takes_data_held b h = go (class_of b) (range_of b)
   where
@@ -53,7 +53,7 @@ takes_data_held b h = go (class_of b) (range_of b)
     go k.End r = absurd (omega (arith, none_above b (omega arith)))
     go k.Realtime r = absurd (omega (arith, none_above b (omega arith)))
 
--- no status takes more than two
+-- no status takes more than two data bytes
 pub at_most_two : (b : ℕ) → data_length b ≤ 2
 unfolding data_length
 at_most_two b =
@@ -66,7 +66,7 @@ at_most_two b =
     (λ x. by_test P (eqb b 0xF2) _ _ (λ e. omega arith)
     (λ y. by_test P (eqb b 0xF3) _ _ (λ e. omega arith) (λ z. omega arith)))))))
 
--- one that takes more than one takes two
+-- a status that takes more than one data byte takes two
 two_exactly : (b : ℕ) → leb (data_length b) 1 ≡ false → eqb (data_length b) 2 ≡ true
 two_exactly b l = eq-eqb (data_length b) 2 (omega (arith, at_most_two b, leb-false (data_length b) 1 l))
 
@@ -85,7 +85,7 @@ open_part d h e =
     let q = both _ _ p.1 in
     record { some = leb-true _ _ p.0; fits = leb-true _ _ q.0 }
 
--- one byte more
+-- an open frame with one byte more is sound while the limit has room
 longer_sound : (d : Decoder) → d.len < limit → sound (longer d) ≡ true
 longer_sound d h = rw (le-leb 1 (d.len + 1) (omega arith), le-leb (d.len + 1) limit (omega arith))
 

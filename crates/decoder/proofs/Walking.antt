@@ -38,18 +38,18 @@ walking_begins d store bytes room =
     w = walk d store bytes
 
 module _ (d₀ : Decoder) (store₀ bytes : List ℕ) (d : Decoder) (store : List ℕ) (used : ℕ) (i : Walking d₀ store₀ bytes d store used) where
-  -- the next byte
+  -- the walk over what is left begins with the next byte
   next_byte : used < length bytes → walk d store (drop used bytes) ≡ walk d store (get_or bytes used 0 ∷ drop (suc used) bytes)
   next_byte h = ap (walk d store) (drop-cons bytes used 0 h)
 
-  -- it reports
+  -- a byte that reports is the walk's last
   pub walking_stops : used < length bytes → (x : Stepped) (kept : List ℕ) → x ≡ step d (get_or bytes used 0) → kept ≡ stored d store (get_or bytes used 0)
       → reports x ≡ true → walk d₀ store₀ bytes ≡ further used (stopped x kept)
   unfolding walk
   walking_stops h x kept p q r =
       i.rest ∙ ap (further used) (next_byte h ∙ rw (← p, ← q, r))
 
-  -- it does not
+  -- a byte that reports nothing leads the walk on by one
   pub walking_goes_on : used < length bytes → (x : Stepped) (kept : List ℕ) → x ≡ step d (get_or bytes used 0) → kept ≡ stored d store (get_or bytes used 0)
       → reports x ≡ false → Walking d₀ store₀ bytes x.state kept (used + 1)
   unfolding walk

@@ -69,7 +69,7 @@ pub enum Report {
     Common(SystemCommon),
     Realtime(Realtime),
     SysExInterrupted,
-    // with the frame limit
+    // the number is the frame limit
     SysExTooLong(usize),
 }
 

@@ -34,7 +34,7 @@ all_fit_lem (f ∷ fs) p i a b e =
     let rest = all_fit_lem fs p (suc i) a b (passed_on (field_fits f (get_or p i 0)) (field_refusal f) (get_or p i 0 ∷ []) (checked fs p (suc i) (gives a)) b e) in
     (rw (passed (field_fits f (get_or p i 0)) (field_refusal f) (get_or p i 0 ∷ []) (checked fs p (suc i) (gives a)) b e) rest.0, rest.1)
 
--- and fields that all fit are given
+-- where all fields fit, their tests leave what follows as it is
 pub fit_given : {A : Type 0} (l : List Field) (p : List ℕ) (i : ℕ) (next : Outcome A) → all_fit l p i ≡ true → checked l p i next ≡ next
 fit_given [] p i next h = refl
 fit_given (f ∷ fs) p i next h =

@@ -24,7 +24,7 @@ body_part bytes =
     let e : length bytes - 1 - 1 ≡ length bytes - 2 = omega arith in
     rw e
 
--- and the payload
+-- the payload, as the code takes it
 pub payload_part : (bytes : List ℕ) → take (length bytes - 1 - 7) (drop 7 bytes) ≡ payload bytes
 payload_part bytes =
     let e : length bytes - 1 - 7 ≡ length bytes - 8 = omega arith in

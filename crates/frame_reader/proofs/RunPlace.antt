@@ -139,7 +139,7 @@ with_place_lem bytes x h = go (read_record bytes) refl h
         rw same (record { found = sym e; starts = refl; long = refl })
     go (refused n vs) e g = absurd (given_not_refused x n vs (sym g))
 
--- its run is the part at that place
+-- a frame that was read has its run at the place that was told, and the bytes there are the run
 pub read_starts : (bytes : List ℕ) (x : Located) → gives x ≡ read_located bytes → x.run.start ≡ run_place bytes
 read_starts bytes x h = let p = with_place_lem bytes x h in p.starts ∙ rw (← p.found)
 
@@ -150,7 +150,7 @@ read_run_lem bytes x h =
     ap (λ (k : ℕ). take k (drop x.run.start bytes)) n ∙ ap (λ (k : ℕ). take (length (run_in x.frame bytes)) (drop k bytes)) p.starts
     ∙ run_lies_there bytes x.frame p.found ∙ rw (← p.found)
 
--- a frame that is refused has none
+-- a frame that is refused has no run: its place is 0, and it has no bytes
 pub no_run : (bytes : List ℕ) (e : Refusal) → refusal e ≡ read_located bytes → (run_place bytes ≡ 0) × (run_of bytes ≡ [])
 no_run bytes e h = go (read_record bytes) refl h
   where

@@ -26,7 +26,7 @@ put_behind front rest xs a e =
 
 module _ (h prefix run out s n m : List ℕ) (seven : length h ≡ 7) (room : 8 + (length prefix + length run) ≤ length out)
     (s-is : s ≡ h ++ drop 7 out) (n-is : n ≡ prefix ++ drop (length prefix) (take (length s - 7) (drop 7 s))) where
-  -- behind the prefix
+  -- the prefix is put right behind the header
   pub prefix_put : put_mid 7 (length s - 7) s n ≡ (h ++ prefix) ++ drop (length prefix) (drop 7 out)
   prefix_put =
       ap₂ (λ (x z : List ℕ). put_mid 7 (length x - 7) x z) s-is (n-is ∙ ap (λ (x : List ℕ). prefix ++ drop (length prefix) (take (length x - 7) (drop 7 x))) s-is)
@@ -38,7 +38,7 @@ module _ (h prefix run out s n m : List ℕ) (seven : length h ≡ 7) (room : 8 
   pub length_prefix : length (put_mid 7 (length s - 7) s n) ≡ length out
   length_prefix = ap length prefix_put ∙ simp (length-append, length-drop) (omega arith)
 
-  -- behind the run
+  -- the run is put right behind the prefix
   module _ (t : List ℕ) (t-is : t ≡ put_mid 7 (length s - 7) s n)
       (m-is : m ≡ run ++ drop (length run) (take (length t - (7 + length prefix)) (drop (7 + length prefix) t))) where
     front_length : length (h ++ prefix) ≡ 7 + length prefix
@@ -54,7 +54,7 @@ module _ (h prefix run out s n m : List ℕ) (seven : length h ≡ 7) (room : 8 
     pub length_run : length (put_mid (7 + length prefix) (length t - (7 + length prefix)) t m) ≡ length out
     length_run = ap length run_put ∙ simp (length-append, length-drop) (omega arith)
 
-    -- and F7
+    -- F7 right behind the run completes the frame, and the bytes behind it stay
     pub frame_put : set (put_mid (7 + length prefix) (length t - (7 + length prefix)) t m) (7 + length prefix + length run) 0xF7
         ≡ (h ++ (prefix ++ (run ++ (0xF7 ∷ [])))) ++ drop (8 + (length prefix + length run)) out
     frame_put =

@@ -68,7 +68,7 @@ module _ (bytes : List ℕ) (r : Record) (d : Tested bytes r) where
   flag_is : r.fields.has_pattern ≡ (optional r.command && numbered_by (length (payload bytes)))
   flag_is = ap (λ (f : Fields). f.has_pattern) d.says.says
 
-  -- the test of its length, by its first byte as version
+  -- the payload's length passes, with its first byte as version
   passes : length_passes r.command (get_or (payload bytes) 0 0) (length (payload bytes)) ≡ true
   passes = go (carries_run r.command) refl
     where

@@ -91,7 +91,7 @@ module _ (bytes : List ℕ) (r : Record) (d : Tested bytes r) where
       ∙ ap (λ (l : List Field). tab (λ i. get_or (payload bytes) i 0) (length l)) (sym (own_list bytes r d))
       ∙ sym (front_spelled (payload bytes) (length (field_list r.command r.fields.has_pattern)) (omega (arith, prefix_there bytes r d, length_payload bytes r d)))
 
-  -- and the run is the rest of it
+  -- the run that is written is the payload behind its fields
   pub run_back : own_run r.command (run_in r bytes) ≡ drop n p
   run_back = go (carries_run r.command) refl
     where
@@ -107,7 +107,7 @@ module _ (bytes : List ℕ) (r : Record) (d : Tested bytes r) where
           (drop_of_length-le (payload bytes) {i = length (field_list r.command r.fields.has_pattern)}
           (omega (arith, d.says.exact e, exact_list r.command r.fields.has_pattern e)))
 
-  -- the payload between header and F7
+  -- the payload and F7 stand behind the seven bytes of the header
   rest_is : drop 7 bytes ≡ p ++ (0xF7 ∷ [])
   rest_is =
       let m : ℕ = length bytes - 8 in
@@ -119,7 +119,7 @@ module _ (bytes : List ℕ) (r : Record) (d : Tested bytes r) where
       ∙ take-suc (drop 7 bytes) m 0 (omega (arith, size))
       ∙ ap (λ (x : ℕ). take m (drop 7 bytes) ++ (x ∷ [])) (get_or-drop 7 bytes m 0 ∙ ap (λ (x : ℕ). get_or bytes x 0) place ∙ last)
 
-  -- the header
+  -- the header that is written is the frame's first seven bytes
   header_is : take 7 bytes ≡ header (device_byte r.device) (code_of r.command)
   header_is =
       let ends : Bool = leb 2 (length bytes) && eqb (get_or bytes 0 0) 0xF0 in
@@ -166,7 +166,7 @@ module _ (bytes : List ℕ) (r : Record) (d : Tested bytes r) where
       (λ i h. sym (ap (λ (l : List ℕ). get_or l i 0) prefix_back ∙ get_or-take (length (field_list r.command r.fields.has_pattern)) (payload bytes) i 0 h))
       (ap (λ (l : List Field). all_fit l (payload bytes) 0) (own_list bytes r d) ∙ d.says.fits)
 
-  -- so they pass the writer's tests
+  -- the fields that were read pass the writer's tests
   pub fields_pass : checked_fields r.command r.fields ≡ gives (fields_at r.command r.fields.has_pattern (prefix_of r.command r.fields))
   fields_pass = fit_given (field_list r.command r.fields.has_pattern) (prefix_of r.command r.fields) 0 _ fields_fit
 

@@ -23,7 +23,7 @@ count_given : (r : Count) (n : ℕ) → counted r ≡ gives n → r ≡ c.Ok n
 count_given (c.Ok m) n e = let same : m ≡ n = cc in ap (λ (k : ℕ). c.Ok k) same
 count_given (c.Err f) n e = cc
 
--- so the call answers the frame's length, and the frame stands at the front of the buffer, whose other bytes stay
+-- a call that writes an accepted frame again answers its length, and the frame stands at the front of the buffer, whose other bytes stay
 pub same_bytes_again : (bytes out later : List ℕ) (x : Frame) (r : Count) → parsed bytes ≡ gives x → length bytes < 2 ^ 64 → length bytes ≤ length out
     → Writes (written_again bytes (length out)) r out later → (r ≡ c.Ok (length bytes)) × (later ≡ bytes ++ drop (length bytes) out)
 same_bytes_again bytes out later x r e real fits w =

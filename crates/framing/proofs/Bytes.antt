@@ -32,7 +32,7 @@ high_nowhere [] h = refl
 high_nowhere (b ∷ l) h =
     by_byte b l (λ low e. rw (lt-ltb b 0x80 low) (high_nowhere l (omega (arith, e, h)))) (λ _ e. absurd (omega (arith, e, h)))
 
--- of two lists one behind the other
+-- the first high byte of two lists, one behind the other, is the second's where the first has none
 pub high_append : (l k : List ℕ) → first_high l ≡ m.None → first_high (l ++ k) ≡ first_high k
 high_append [] k h = refl
 high_append (b ∷ l) k h = go (ltb b 0x80) h (high_append l k)
@@ -51,7 +51,7 @@ high_first (x ∷ l) k b h = go (ltb x 0x80) h (high_first l k b)
     go true g rest = rest g
     go false g rest = g
 
--- the comparison
+-- two lists that differ at a place are not the same from there on
 pub differ_here : (l k : List ℕ) (i : ℕ) → i < length l → i < length k → (get_or l i 0 ≡ get_or k i 0 → ⊥) → same_bytes (drop i l) (drop i k) ≡ false
 differ_here l k i h g n = rw (drop-cons l i 0 h, drop-cons k i 0 g, ne_eqb (get_or l i 0) (get_or k i 0) n)
 

@@ -116,7 +116,7 @@ module _ (keys : List (List ℕ)) where
           }))
           (λ (t : is_held keys c k ≡ false). inr (one_more n t none))
 
-  -- the answer: such a key, or none, and then no key is held
+  -- the search answers the lowest held key, or none, and then no key is held
   pub first_is_lowest : Lowest ⊎ (NoneHeld × (first_held keys ≡ f.None))
   first_is_lowest = go (look 2048 (omega arith))
     where

@@ -72,7 +72,7 @@ module _ (keys : List (List ℕ)) (channel : ℕ) (message : ChannelMessage) whe
       split (ltb channel 16) (λ (t : ltb channel 16 ≡ true). rw t (made_held (still_held keys channel message) c k hc hk))
       (λ (f : ltb channel 16 ≡ false). rw (f, ne_eqb c channel (λ e. omega (arith, ltb-false channel 16 f))))
 
-  -- a record of which this is true is the record after the message
+  -- a record that holds each key as the message leaves it is the record after the message
   pub afterwards_is : (later : List (List ℕ)) → channel < 16 → Shaped later
       → ((c k : ℕ) → is_held later c k ≡ still_held keys channel message c k) → later ≡ record_after keys channel message
   afterwards_is later h p same =

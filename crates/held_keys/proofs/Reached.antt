@@ -35,7 +35,7 @@ unfolding after_calls
 calls_shaped [] = fresh_shaped
 calls_shaped (call ∷ earlier) = after_shaped (after_calls earlier) call.0 call.1 (calls_shaped earlier)
 
--- another place is as far below the next number as below this one
+-- a place other than j is below j just where it is below the number behind j
 below_next : (x j : ℕ) → (x ≡ j → ⊥) → ltb x j ≡ ltb x (suc j)
 below_next x j other =
     split (ltb x j)
@@ -84,13 +84,13 @@ module _ (held : ℕ → ℕ → Bool) (j : ℕ) (c k : ℕ) (channel : c < 16) 
       ∙ sym (ap₂ (λ (x y : Bool). x && y) (lt-ltb (c * 128 + k) (suc j) (omega arith)) (here same ∙ e)))
       (λ (f : eqb (c * 128 + k) j ≡ false). ap (λ (x : Bool). x && held c k) (below_next (c * 128 + k) j (eqb-false (c * 128 + k) j f)))
 
--- after the first n places: those of them that are held
+-- the notes on for the first n places hold just those of them that are held
 first_places : (held : ℕ → ℕ → Bool) (n c k : ℕ) → c < 16 → k < 128 → is_held (after_calls (presses held n)) c k ≡ (ltb (c * 128 + k) n && held c k)
 unfolding after_calls
 first_places held zero c k hc hk = none_held 16 c k ∙ sym (ap (λ (t : Bool). t && held c k) (le-ltb (c * 128 + k) 0 (omega arith)))
 first_places held (suc j) c k hc hk = one_more held j c k hc hk (presses held j) (first_places held j c k hc hk) (held (j / 128) (j % 128)) refl
 
--- all of them: just the keys that are held, so the very record
+-- the notes on for all places hold just the record's keys, and so make the very record
 pub every_record_is_reached : (keys : List (List ℕ)) → Shaped keys → after_calls (presses (is_held keys) 2048) ≡ keys
 every_record_is_reached keys p =
     record_known (after_calls (presses (is_held keys) 2048)) keys (calls_shaped (presses (is_held keys) 2048)) p

@@ -25,7 +25,7 @@ pub writer_told : (o : Outcome (List ℕ)) (c : Count) (r : Answer) (before afte
     → r ≡ answer_of (counted c) → Sends o r before afterwards
 writer_told o c r before afterwards w a = record { answers = a ∙ ap answer_of w.answers; leaves = w.leaves }
 
--- its flags name a record, or none does
+-- a writer's entry point whose flags name a record answers as the writer; one whose flags name none answers that
 pub named_told : (t : Bool) (o : Outcome (List ℕ)) (r : Answer) (before afterwards : List ℕ) → t ≡ true → Sends o r before afterwards
     → SendsIf t o r before afterwards
 named_told true o r before afterwards h s = s

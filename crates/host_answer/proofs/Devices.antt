@@ -10,7 +10,7 @@ pub device_named_again : (x : DeviceId) → device_from (everyone_of x) (unit_of
 device_named_again (d.Unit n) = refl
 device_named_again d.Broadcast = refl
 
--- and its flag is 0 or 1
+-- the flag for everyone is 0 or 1
 pub everyone_is_a_flag : (x : DeviceId) → everyone_of x ≤ 1
 everyone_is_a_flag (d.Unit n) = omega arith
 everyone_is_a_flag d.Broadcast = omega arith

@@ -25,6 +25,7 @@ use Rattle.host_answer.proofs.Devices.{device_named_again, everyone_is_a_flag}
 use Rattle.host_frames.specs.declared.ReadAnswer.{ReadAnswer}
 use Rattle.host_frames.specs.Frames.{read_answer}
 use Rattle.host_frames.specs.Sent.{fields_from, pattern_flag_fits, FrameSent}
+use Rattle.host_frames.proofs.Read.{number_0_means_read}
 
 -- a flag told as a number is the flag that the number names
 flag_again : (b : Bool) → eqb (flag b) 1 ≡ b
@@ -85,3 +86,15 @@ told_and_sent_again bytes r e real a told before afterwards answer room sent =
     subst (λ (t : Bool). SendsIf t (sent_again a bytes (length before)) answer before afterwards) flags sent in
     let done : Sends (gives bytes) answer before afterwards = subst (λ (o : Outcome (List ℕ)). Sends o answer before afterwards) same named in
     (done.answers, done.leaves)
+
+-- the same for a C host, which sees only the number: where it is 0 the frame was read
+pub told_with_0_and_sent_again : (bytes : List ℕ) → length bytes < 2 ^ 64
+    → (a : ReadAnswer) → a ≡ read_answer (read_record bytes) bytes → a.number ≡ 0
+    → (before afterwards : List ℕ) (answer : Answer) → length bytes ≤ length before
+    → FrameSent a.everyone a.unit a.command a.has_pattern
+    (fields_from a.free a.version a.bank a.program a.last a.pattern a.has_pattern a.interface a.rx a.tx)
+    (take a.run_len (drop a.run_start bytes)) answer before afterwards
+    → (answer ≡ answer_of (gives (length bytes))) × (afterwards ≡ bytes ++ drop (length bytes) before)
+told_with_0_and_sent_again bytes real a told zero before afterwards answer room sent =
+    let read = (number_0_means_read bytes a told).0 zero in
+    told_and_sent_again bytes read.0 read.1 real a told before afterwards answer room sent

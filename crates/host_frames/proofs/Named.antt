@@ -1,14 +1,59 @@
--- The length of a message by its command: a flag that names no record, or what the call below it answered.
-use mathlib.Core.Path.{◌≡◌}
-use mathlib.Core.Bool.{Bool, true, false}
+-- The length of a message by its command: a flag that names no record, or what the call below it answered; and that the length asked for, which the
+-- definition takes of a message with no more in it than the flag, has a byte for each of its command's fields.
+use mathlib.Core.Path.{◌≡◌, refl, ap₂}
+use mathlib.Core.Bool.{Bool, true, false, ◌&&◌}
 use Prim.Native.Nat.{ℕ}
+use lib.Dec.{eqb}
+use lib.ListN.{length}
+use borrow.Author.Tests.{eqb-true}
 use Rattle.laws.specs.Choice.{pick}
-use Rattle.refusal.specs.Outcome.{Outcome}
+use Rattle.laws.proofs.Tests.{both}
+use Rattle.refusal.specs.Outcome.{Outcome, gives, refused, and_then}
+use Rattle.command.specs.declared.Command.{Command}
+use Rattle.command.specs.Command.{code_of, command_of}
+use Rattle.command.proofs.Table.{same_code, of_every}
+use Rattle.message.specs.declared.fields.Fields.{Fields}
+use Rattle.message.specs.Head.{head_from, command_of_head, fields_of}
+use Rattle.message.specs.Prefix.{prefix_of, field_list}
+use Rattle.frame_writer.specs.Writer.{length_for, head_length}
 use Rattle.host_answer.specs.declared.Answer.{Answer}
 use Rattle.host_answer.specs.Answer.{answer_of, no_record}
+use Rattle.host_frames.specs.Sent.{fields_from, length_asked}
 
 pub length_unnamed : (t : Bool) (o : Outcome ℕ) (a : Answer) → t ≡ false → a ≡ no_record → a ≡ pick t (answer_of o) no_record
 length_unnamed t o a h e = rw h e
 
 pub length_named : (t : Bool) (o : Outcome ℕ) (a : Answer) → t ≡ true → a ≡ answer_of o → a ≡ pick t (answer_of o) no_record
 length_named t o a h e = rw h e
+
+-- fields of which only a pattern's flag says something
+abbrev flag_alone : Bool → Fields
+flag_alone b =
+    record { free = 0; version = 0; bank = 0; program = 0; last = 0; pattern = 0; has_pattern = b; interface = 0; rx = 0; tx = 0 }
+
+-- a message of such fields has its command, and a byte for each field of it
+abbrev as_long : Bool → Command → Bool
+as_long b k =
+    let m = head_from k (flag_alone b) in
+    eqb (code_of (command_of_head m)) (code_of k) && eqb (length (prefix_of (command_of_head m) (fields_of m))) (length (field_list k b))
+
+every_as_long : (b : Bool) (k : Command) → as_long b k ≡ true
+every_as_long true k = of_every (as_long true) refl k
+every_as_long false k = of_every (as_long false) refl k
+
+flag_alone_length : (k : Command) (b : Bool) (run : ℕ) → head_length (head_from k (flag_alone b)) run ≡ length_for k (length (field_list k b)) run
+flag_alone_length k b run =
+    let m = head_from k (flag_alone b) in
+    let told =
+    both (eqb (code_of (command_of_head m)) (code_of k)) (eqb (length (prefix_of (command_of_head m) (fields_of m))) (length (field_list k b))) (every_as_long b k) in
+    ap₂ (λ (c : Command) (n : ℕ). length_for c n run) (same_code (command_of_head m) k (eqb-true _ _ told.0)) (eqb-true _ _ told.1)
+
+-- the length asked for as the paper counts it: of the command's own, with a byte for each field that it has; 6 for a code that no command has
+pub length_is_counted : (code has run : ℕ)
+    → length_asked code has run ≡ and_then (command_of code) (λ k. length_for k (length (field_list k (eqb has 1))) run)
+length_is_counted code has run = go (command_of code)
+  where
+    go : (o : Outcome Command)
+        → and_then o (λ k. head_length (head_from k (fields_from 0 0 0 0 0 0 has 0 0 0)) run) ≡ and_then o (λ k. length_for k (length (field_list k (eqb has 1))) run)
+    go (gives k) = flag_alone_length k (eqb has 1) run
+    go (refused n vs) = refl

@@ -9,7 +9,7 @@ use lib.Dec.{ltb, eqb}
 use lib.ListN.{get_or}
 use borrow.Author.Tests.{ltb-true}
 use Rattle.laws.specs.Choice.{pick, flag}
-use Rattle.refusal.specs.Outcome.{Outcome, gives}
+use Rattle.refusal.specs.Outcome.{Outcome, gives, refused}
 use Rattle.ids.specs.declared.device.DeviceId.{DeviceId}
 use Rattle.ids.specs.declared.device.DeviceId.TheVariants as d
 use Rattle.ids.specs.Device.{device_in_range}
@@ -26,6 +26,7 @@ use Rattle.frames.proofs.BodyLow.{code_low}
 use Rattle.frames.proofs.Described.{described_if_accepted}
 use Rattle.host_answer.specs.Device.{unit_of}
 use Rattle.host_answer.proofs.Devices.{everyone_is_a_flag}
+use Rattle.host_frames.specs.declared.ReadAnswer.{ReadAnswer}
 use Rattle.host_frames.specs.Frames.{read_answer, ToldBytes}
 
 -- no high byte: each is below 80, and 0 is behind the end
@@ -84,3 +85,29 @@ told_are_bytes bytes r e =
       rx = rw (own (λ f. f.rx)) (v y.receive);
       tx = rw (own (λ f. f.tx)) (v y.transmit);
     })
+
+-- of a refused frame every such number is 0: so all that dm_frame_read ever tells fits
+pub all_told_are_bytes : (bytes : List ℕ) (a : ReadAnswer) → a ≡ read_answer (read_record bytes) bytes → ToldBytes a
+all_told_are_bytes bytes a told = subst ToldBytes (sym told) (go (read_record bytes) refl)
+  where
+    none : 0 < 0x80
+    none = omega arith
+
+    go : (o : Outcome Record) → read_record bytes ≡ o → ToldBytes (read_answer o bytes)
+    go (gives r) e = subst (λ (o : Outcome Record). ToldBytes (read_answer o bytes)) e (told_are_bytes bytes r e)
+    go (refused n vs) e =
+        record {
+          everyone = omega arith;
+          unit = none;
+          command = none;
+          free = none;
+          version = none;
+          bank = none;
+          program = none;
+          last = none;
+          pattern = none;
+          flag_fits = omega arith;
+          interface = none;
+          rx = none;
+          tx = none;
+        }

@@ -26,7 +26,7 @@ use Rattle.host_answer.specs.declared.Answer.{Answer}
 use Rattle.host_answer.specs.Answer.{answer_of, no_record, Sends}
 use Rattle.host_held_keys.specs.Held.{fresh_write, HeldSent}
 
--- a no_keys record: 20, or every byte 0
+-- a record with no key held: 256 bytes 00, or 20 where the bytes are not 256
 pub fresh_refused : (bytes : List ℕ) (r : Answer) → (length bytes ≡ 256 → ⊥) → r ≡ answer_of (refusal BadStore) → Sends (fresh_write bytes) r bytes bytes
 fresh_refused bytes r h e = record { answers = rw (ne_eqb (length bytes) 256 h) e; leaves = rw (ne_eqb (length bytes) 256 h) }
 
@@ -41,7 +41,7 @@ fresh_written bytes later keys r h new l e =
           (l ∙ ap bytes_of_keys new ∙ bytes_fresh no_keys (none_held 16) ∙ sym (ap (λ (rest : List ℕ). zeros ++ rest) behind ∙ append-nil zeros));
     }
 
--- a message: 20
+-- a message to bytes that are not 256 is refused with 20
 pub apply_refused : (kind : MaybeChannelMessage) (channel : ℕ) (bytes : List ℕ) (r : Answer) → (length bytes ≡ 256 → ⊥) → r ≡ answer_of (refusal BadStore)
     → HeldSent kind channel r bytes bytes
 apply_refused kind channel bytes r h e = record { answers = rw (ne_eqb (length bytes) 256 h) e; leaves = rw (ne_eqb (length bytes) 256 h) }
@@ -53,7 +53,7 @@ apply_unnamed kind channel bytes r h e n =
     subst (λ (x : MaybeChannelMessage). HeldSent x channel r bytes bytes) (sym e)
     (record { answers = rw (eq-eqb (length bytes) 256 h) n; leaves = rw (eq-eqb (length bytes) 256 h) })
 
--- what the answer below says of the channel
+-- a refusal from the held keys means that the channel is too high
 too_high : (channel : ℕ) (answer : KeyAnswer) (e : Refusal) → answer ≡ k.Err e → key_told answer ≡ key_answer channel → ltb channel 16 ≡ false
 too_high channel answer e h told =
     split (ltb channel 16)
@@ -71,7 +71,7 @@ in_range channel answer h told =
     let one : ◌≡◌ {A = ℕ} 0 1 = cc in
     absurd (omega arith))
 
--- 17
+-- a message on a channel too high is refused with 17, and the bytes stay
 pub apply_out : (kind : MaybeChannelMessage) (x : ChannelMessage) (channel : ℕ) (bytes : List ℕ) (answer : KeyAnswer) (e : Refusal) (r : Answer)
     → length bytes ≡ 256 → kind ≡ c.Some x → answer ≡ k.Err e → key_told answer ≡ key_answer channel → r ≡ answer_of (refusal e)
     → HeldSent kind channel r bytes bytes
@@ -82,7 +82,7 @@ apply_out kind x channel bytes answer e r h n g told a =
       leaves = rw (eq-eqb (length bytes) 256 h, too_high channel answer e g told);
     })
 
--- done: the bytes of the record after the message
+-- a message that was applied leaves the bytes of the record after it
 pub apply_done : (kind : MaybeChannelMessage) (x : ChannelMessage) (channel : ℕ) (bytes after : List ℕ) (keys later : List (List ℕ)) (answer : KeyAnswer) (r : Answer)
     → length bytes ≡ 256 → kind ≡ c.Some x → answer ≡ k.Ok → key_told answer ≡ key_answer channel → keys ≡ keys_of bytes → later ≡ record_after keys channel x
     → after ≡ bytes_of_keys later → r ≡ answer_of (gives 0) → HeldSent kind channel r bytes after

@@ -17,6 +17,7 @@ use Rattle.host_answer.specs.Device.{device_from, everyone_of}
 use Rattle.host_answer.proofs.Devices.{device_named_again, everyone_is_a_flag}
 use Rattle.host_inquiry.specs.declared.RequestAnswer.{RequestAnswer}
 use Rattle.host_inquiry.specs.Identity.{request_answer, RequestSent}
+use Rattle.host_inquiry.proofs.Read.{request_number_0_means_read}
 
 -- what dm_request_write is asked to write where it is handed what was told
 abbrev request_again : RequestAnswer → ℕ → Outcome (List ℕ)
@@ -48,3 +49,13 @@ request_told_and_sent_again bytes d e a told before afterwards answer room sent 
     subst (λ (t : Bool). SendsIf t (request_again a (length before)) answer before afterwards) flags sent in
     let done : Sends (gives bytes) answer before afterwards = subst (λ (o : Outcome (List ℕ)). Sends o answer before afterwards) same named in
     (done.answers, done.leaves)
+
+-- the same for a C host, which sees only the number: where it is 0 the request was read
+pub request_told_with_0_and_sent_again : (bytes : List ℕ)
+    → (a : RequestAnswer) → a ≡ request_answer (read_request bytes) → a.number ≡ 0
+    → (before afterwards : List ℕ) (answer : Answer) → length bytes ≤ length before
+    → RequestSent a.everyone a.unit answer before afterwards
+    → (answer ≡ answer_of (gives (length bytes))) × (afterwards ≡ bytes ++ drop (length bytes) before)
+request_told_with_0_and_sent_again bytes a told zero before afterwards answer room sent =
+    let read = (request_number_0_means_read bytes a told).0 zero in
+    request_told_and_sent_again bytes read.0 read.1 a told before afterwards answer room sent

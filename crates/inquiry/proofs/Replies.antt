@@ -24,13 +24,13 @@ abbrev pub reply_row : ℕ → ℕ → ℕ → ℕ → ℕ → List ℕ
 reply_row device firmware free major minor =
     0xF0 ∷ 0x7E ∷ device ∷ 0x06 ∷ 0x02 ∷ maker ++ (0x00 ∷ 0x01 ∷ 0x00 ∷ firmware ∷ free ∷ major ∷ minor ∷ 0xF7 ∷ [])
 
--- every such reply reads
+-- every reply in the paper's row reads, where its device byte is a device's
 pub reply_row_reads : (device firmware free major minor : ℕ) (d : DeviceId) → device_of device ≡ gives d
     → read_reply (reply_row device firmware free major minor) ≡ gives (identity_at d (reply_row device firmware free major minor))
 reply_row_reads device firmware free major minor d e =
     ap (λ o. and_then o (λ x. gives (identity_at x (reply_row device firmware free major minor)))) e
 
--- and no other does
+-- every reply that reads is in the paper's row, with a device's byte
 pub reply_is_row : (bytes : List ℕ) (x : Identity) → read_reply bytes ≡ gives x
     → (bytes ≡ reply_row (get_or bytes 2 0) (get_or bytes 12 0) (get_or bytes 13 0) (get_or bytes 14 0) (get_or bytes 15 0))
     × ((d : DeviceId) × (device_of (get_or bytes 2 0) ≡ gives d) × (x ≡ identity_at d bytes))

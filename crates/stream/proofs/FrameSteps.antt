@@ -62,28 +62,28 @@ module _ (l : List ℕ) (free : MiddleFree l) (at : ℕ) (store : List ℕ) (b n
       answers_by k.Start d store b n r later left (class_is b k.Start is) (record { state = opened d; interrupted = true; report = o.None }) (set store 0 b) refl refl refl t
       (e ∙ open_stored l free 1 (omega (arith, room_for_three))) q
 
-  -- a status byte that waits for data
+  -- a status byte that waits for data breaks the frame off
   pub held_answers : 0x80 ≤ b → b < 0xF4 → (b ≡ 0xF0 → ⊥) → r ≡ numbers_of n true o.None → later ≡ put_middle (held_number b) (put_word 0 l 0) → left ≡ store
       → Answers d store b n r later left
   held_answers low high not t e q =
       answers_by k.Held d store b n r later left (class_is b k.Held (low, high, not)) (record { state = holding d b; interrupted = true; report = o.None }) store refl refl refl t
       (e ∙ held_stored l free at b (omega arith)) q
 
-  -- F4 and F5
+  -- F4 and F5 break the frame off and clear the status
   pub undefined_answers : 0xF4 ≤ b → b < 0xF6 → r ≡ numbers_of n true o.None → later ≡ put_word 0 l 0 → left ≡ store → Answers d store b n r later left
   undefined_answers low high t e q =
       answers_by k.Undefined d store b n r later left (class_is b k.Undefined (low, high))
       (record { state = cleared d; interrupted = true; report = o.None }) store refl refl refl t
       (e ∙ closed_stored l free at) q
 
-  -- F6, which reports itself too
+  -- F6 breaks the frame off and reports itself
   pub tune_answers : b ≡ 0xF6 → r ≡ numbers_of n true (o.Some (report.Common y.TuneRequest)) → later ≡ put_word 0 l 0 → left ≡ store → Answers d store b n r later left
   tune_answers is t e q =
       answers_by k.Tune d store b n r later left (class_is b k.Tune is)
       (record { state = cleared d; interrupted = true; report = o.Some (report.Common y.TuneRequest) }) store refl refl refl t
       (e ∙ closed_stored l free at) q
 
-  -- F7 within the limit
+  -- F7 within the limit ends the frame
   pub end_answers : b ≡ 0xF7 → at < limit → r ≡ numbers_of n false (o.Some (report.SysEx (at + 1))) → later ≡ put_word 0 l 0 → left ≡ set store at b
       → Answers d store b n r later left
   end_answers is fits t e q =
@@ -91,7 +91,7 @@ module _ (l : List ℕ) (free : MiddleFree l) (at : ℕ) (store : List ℕ) (b n
       answers_by k.End d store b n r later left (class_is b k.End is) (reporting (cleared d) (report.SysEx (at + 1))) (set store at b) (sym eqs.0) (sym eqs.1) refl t
       (e ∙ closed_stored l free at) q
 
-  -- a data byte, or F7, beyond it
+  -- a data byte, or F7, beyond the limit drops the frame with 19
   data_beyond : b < 0x80 → limit ≤ at → r ≡ numbers_of n false (o.Some (report.SysExTooLong limit)) → later ≡ put_word 0 l 0 → left ≡ store
       → Answers d store b n r later left
   data_beyond low full t e q =

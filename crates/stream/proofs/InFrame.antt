@@ -45,7 +45,7 @@ pub frame_begins : (start from : ℕ) (state store bytes : List ℕ) → MiddleF
 frame_begins start from state store bytes free room fits within =
     record { free = free; same = refl; long = refl; room = room; fits = fits; on = record { within = within; rest = refl } }
 
--- behind the run
+-- the place right behind a run of n data bytes that was moved
 module _ (w : Walked) (state₀ store₀ bytes state store : List ℕ) (at used : ℕ) (i : InFrame w state₀ store₀ bytes state store at used)
     (n : ℕ) (n-is : n ≡ min (limit - at) (data_run (drop used bytes))) (kept : List ℕ) (kept-is : kept ≡ window store at (take n (drop used bytes))) where
   run_fits : at + n ≤ limit
@@ -66,7 +66,7 @@ module _ (w : Walked) (state₀ store₀ bytes state store : List ℕ) (at used 
             (on_run w bytes at (get_or state₀ 12 0) (get_or state₀ 13 0) store used i.on i.fits i.room n n-is);
       }
 
-  -- a data byte there has no room
+  -- a data byte right behind the run has no room in the frame
   full_there : used + n < length bytes → get_or bytes (used + n) 0 < 0x80 → limit ≤ at + n
   full_there more low =
       let next : get_or (drop used bytes) n 0 < 0x80 = subst (λ (x : ℕ). x < 0x80) (sym (get_or-drop used bytes n 0)) low in
@@ -75,7 +75,7 @@ module _ (w : Walked) (state₀ store₀ bytes state store : List ℕ) (at used 
       let h : n + 1 ≤ data_run (drop used bytes) = longer (omega (arith, n-is)) in
       omega (arith, n-is, h, i.fits)
 
--- as the code moves it
+-- the run, as the code moves it
 module _ (w : Walked) (state₀ store₀ bytes state store : List ℕ) (at used : ℕ) (i : InFrame w state₀ store₀ bytes state store at used)
     (at' used' : ℕ) (kept : List ℕ) (r : RunMoved at used at' used' store kept bytes) where
   pub run_moved : InFrame w state₀ store₀ bytes state kept at' used'
@@ -90,7 +90,7 @@ module _ (w : Walked) (state₀ store₀ bytes state store : List ℕ) (at used 
       (full_there w state₀ store₀ bytes state store at used i r.count r.all kept r.moved (omega (arith, more, r.next))
       (subst (λ (x : ℕ). get_or bytes x 0 < 0x80) r.next low))
 
--- what ends the call, and what does not
+-- in a frame: the end of the bytes or a byte that reports ends the call, and F9 and FD lead on
 module _ (w : Walked) (state₀ store₀ bytes state store : List ℕ) (at used : ℕ) (i : InFrame w state₀ store₀ bytes state store at used) where
   same_open : open_state at state ≡ open_state at state₀
   same_open = ap (open_state at) i.same

@@ -43,11 +43,11 @@ unfolding walk
 stops d store b n bs r later left a = rw a.some (record { told = a.told; kept = a.kept; store = a.leaves })
 
 module _ (w : Walked) (bytes : List ℕ) (d : Decoder) (store : List ℕ) (used : ℕ) (on : On w bytes d store used) where
-  -- the rest by another function
+  -- what another function answers of the rest is the call's answer
   pub on_other : (r : FedAnswer) (later left : List ℕ) → Numbered (further used (walk d store (drop used bytes))) r later left → Numbered w r later left
   on_other r later left n = numbered_as w _ r later left on.rest n
 
-  -- no byte is left
+  -- a call ends where no byte is left
   pub on_ends : used ≡ length bytes → (r : FedAnswer) (later left : List ℕ) → r ≡ numbers_of used false o.None → later ≡ encoded d → left ≡ store → Numbered w r later left
   unfolding walk
   on_ends e r later left t k q =
@@ -70,7 +70,7 @@ module _ (w : Walked) (bytes : List ℕ) (d : Decoder) (store : List ℕ) (used 
     led : drop used bytes ≡ byte ∷ drop (suc used) bytes
     led = drop-cons bytes used 0 more
 
-    -- a byte that reports nothing
+    -- a byte that reports nothing leads on by one
     pub on_quiet : (e : Decoder) (kept : List ℕ) → silent e ≡ step d byte → kept ≡ stored d store byte → On w bytes e kept (used + 1)
     on_quiet e kept p q =
         record {
@@ -79,7 +79,7 @@ module _ (w : Walked) (bytes : List ℕ) (d : Decoder) (store : List ℕ) (used 
               ∙ ap (λ (n : ℕ). further (used + 1) (walk e kept (drop n bytes))) (sym (add-one used));
         }
 
-    -- a byte that reports
+    -- a byte that reports ends the call
     pub on_answers : (r : FedAnswer) (later left : List ℕ) → Answers d store byte (used + 1) r later left → Numbered w r later left
     on_answers r later left a =
         on_other r later left (numbered_as _ _ r later left (ap (λ (l : List ℕ). further used (walk d store l)) led) (stops d store byte used _ r later left a))

@@ -45,7 +45,7 @@ pub record Outside (m a z : ℕ) : Type 0 where
   pub fine : sound (closed_by m a z) ≡ true
   pub number : waiting_number (closed_by m a z) ≡ m
 
--- one whose number is not 0 has a status that takes data
+-- a closed state whose number is not 0 has a status that takes data
 pub record Force (m a z : ℕ) : Type 0 where
   pub is : closed_by m a z ≡ closed_of (s.Status (status_in m)) (m / 16_777_216) a z
   pub takes : 0 < data_length (status_in m)
@@ -113,7 +113,7 @@ module _ (m a z b : ℕ) (store : List ℕ) (o : Outside m a z) where
   abbrev d : Decoder
   d = closed_by m a z
 
-  -- a status byte that waits for data
+  -- a status byte that waits for data takes the last one's place
   pub held_leads : 0x80 ≤ b → b < 0xF4 → (b ≡ 0xF0 → ⊥) → Leads m a z b (held_number b) a store
   held_leads l h n =
       let known = status_known b 0 a z (held_number b) (omega arith) (omega arith) (omega arith) in
@@ -138,7 +138,7 @@ module _ (m a z b : ℕ) (store : List ℕ) (o : Outside m a z) where
       last : 0xF6 ≤ b → b ≡ 0xF7
       last q = omega arith
 
-  -- the first of two data bytes
+  -- the first of two data bytes waits for the second
   pub first_leads : b < 0x80 → Under m 2 → Leads m a z b (m + 16_777_216) b store
   first_leads low under =
       let f = force m a z o (λ e. omega (arith, e, under.0)) in
@@ -196,7 +196,7 @@ module _ (l : List ℕ) (free : FrontFree l) (m a b n : ℕ) (out : Outside m a 
   abbrev e : Decoder
   e = closed_by m a (get_or l 13 0)
 
-  -- F6
+  -- F6 reports a tune request and clears the status
   pub tune_ends : b ≡ 0xF6 → r ≡ numbers_of n false (maybe.Some (report.Common y.TuneRequest)) → later ≡ put_waiting 0 a l → Answers e store b n r later store
   tune_ends is t q =
       answers_by k.Tune e store b n r later store (class_is b k.Tune is)

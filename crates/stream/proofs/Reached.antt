@@ -45,7 +45,7 @@ pub record Closed (w : Walked) (bytes state store : List ℕ) (m a i : ℕ) : Ty
   pub numbers : Outside m a (get_or state 13 0)
   pub on : On w bytes (closed_by m a (get_or state 13 0)) store i
 
--- in a frame
+-- in a frame: its length says the state that the walk has come to
 pub record Open (w : Walked) (bytes state store : List ℕ) (at i : ℕ) : Type 0 where
   pub free : MiddleFree state
   pub fits : at ≤ limit
@@ -91,7 +91,7 @@ closed_begins m a l store bytes is long fine m-is a-is closed =
       on = subst (λ (x : Decoder). On (walk d store bytes) bytes x store 0) (sym same) (on_begins d store bytes);
     }
 
--- an open one
+-- an open sound state is what its length says
 open_begins : (entry : ℕ) (l store bytes : List ℕ) → l ≡ encoded (state_of l) → length l ≡ 14 → sound (state_of l) ≡ true → entry ≡ (state_of l).len → (state_of l).in_sysex ≡ true
     → Open (walk (state_of l) store bytes) bytes l store entry 0
 open_begins entry l store bytes is long fine entry-is opens =
@@ -119,7 +119,7 @@ open_begins entry l store bytes is long fine entry-is opens =
         ap₂ (λ (b : Bool) (n : ℕ). record { in_sysex = b; len = n; status = d.status; have = d.have; data0 = d.data0; data1 = d.data1 }) p q
         ∙ ap₂ (λ (v : RunningStatus) (h : ℕ). record { in_sysex = true; len = n; status = v; have = h; data0 = d.data0; data1 = d.data1 }) r t
 
--- a call begins
+-- where a call begins the walk has come to the state that the numbers say
 pub walk_begins : (entry m a : ℕ) (l store bytes : List ℕ) → Ready entry m a l store → Reached (walk (state_of l) store bytes) l store bytes l store entry m a 0
 walk_begins entry m a l store bytes ready =
     record {
@@ -209,7 +209,7 @@ module _ (w : Walked) (state₀ store₀ bytes state store : List ℕ) (at m a i
       outside_tune is x later left t q l =
           outside_answers x later left l (tune_ends state here.free m a (get_or bytes i 0) (i + 1) here.numbers x later store is t q)
 
-      -- a byte that does not
+      -- a byte that reports nothing leads on to other numbers
       pub leads_on : (m' a' : ℕ) → Leads m a (get_or state 13 0) (get_or bytes i 0) m' a' store → Reached w state₀ store₀ bytes state store at m' a' (i + 1)
       leads_on m' a' q =
           still m' a' (i + 1) (omega arith) q.outside
@@ -221,7 +221,7 @@ module _ (w : Walked) (state₀ store₀ bytes state store : List ℕ) (at m a i
           still m a (i + 1) (omega arith) here.numbers
           (on_quiet w bytes (closed_by m a (get_or state 13 0)) store i here.on more (closed_by m a (get_or state 13 0)) store q.0 q.1)
 
-      -- stray data bytes
+      -- stray data bytes are passed over
       pub stray_on : get_or bytes i 0 < 0x80 → m ≡ 0 → (j : ℕ) → Skipped (i + 1) j bytes → Reached w state₀ store₀ bytes state store at m a j
       stray_on low e j skipped =
           let d = closed_by m a (get_or state 13 0) in
@@ -234,7 +234,7 @@ module _ (w : Walked) (state₀ store₀ bytes state store : List ℕ) (at m a i
           let there = subst (λ (n : ℕ). On w bytes d store n) (sym skipped.place) all in
           still m a j there.within here.numbers there
 
-      -- F0
+      -- F0 leads on to a frame
       pub opens_on : get_or bytes i 0 ≡ 0xF0 → (state' store' : List ℕ) → state' ≡ put_waiting 0 a state → store' ≡ set store 0 (get_or bytes i 0)
           → Reached w state₀ store₀ bytes state' store' 1 m a (i + 1)
       opens_on is state' store' p q =

@@ -141,7 +141,7 @@ module _ (l : List ℕ) (long : length l ≡ 14) (bytes : (i : ℕ) → get_or l
   pub taken_walks : (store bs : List ℕ) → limit ≤ length store → taken F H M (get_or l 12 0) ≡ true → feed_call l store bs ≡ gives (walk (state_of l) store bs)
   taken_walks store bs room t = let x = says t in rw x.is (ready_walks (state_of l) store bs room x.fine)
 
-  -- and every sound state is taken
+  -- an open frame's state is taken where its length is within the limit and nothing waits
   open_taken_lem : get_or l 0 0 ≡ 1 → get_or l 9 0 ≡ 0 → get_or l 10 0 ≡ 0 → get_or l 11 0 ≡ 0 → 1 ≤ state_length l → state_length l ≤ limit → taken F H M (get_or l 12 0) ≡ true
   open_taken_lem frame flag none pending some fits =
       let small : state_length l < 65_536 = omega (arith, fits, limit_small) in

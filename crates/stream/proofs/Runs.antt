@@ -28,7 +28,7 @@ more_further m n w = ap (counted w) (omega arith)
 one_ahead : (n : ℕ) (w : Walked) → further 1 (further n w) ≡ further (suc n) w
 one_ahead n w = ap (counted w) (omega arith)
 
--- no byte more
+-- a walk that is no byte further is the same walk
 pub none_further : (w : Walked) → further 0 w ≡ w
 none_further w = ap (counted w) (zero-add w.fed.used)
 
@@ -54,7 +54,7 @@ no_more n l = simp length-take (omega arith)
 abbrev pub open_of : ℕ → ℕ → ℕ → Decoder
 open_of n a z = record { in_sysex = true; len = n; status = s.None; have = 0; data0 = a; data1 = z }
 
--- in an open frame with the room
+-- a data byte in an open frame that has room is stored behind the last
 frame_byte : (at a z : ℕ) (store : List ℕ) (b : ℕ) (bs : List ℕ) → at < limit → b < 0x80
     → walk (open_of at a z) store (b ∷ bs) ≡ further 1 (walk (open_of (at + 1) a z) (set store at b) bs)
 frame_byte at a z store b bs l low =
@@ -77,7 +77,7 @@ frame_run (suc n) at a z store (b ∷ bs) h l room =
     (stored_ahead store at b (take n bs) (omega (arith, no_more n bs))))
     (λ _ e. absurd (omega (arith, e, h)))
 
--- with no status in force
+-- a data byte with no status in force changes nothing
 stray_byte : (d : Decoder) (store : List ℕ) (b : ℕ) (bs : List ℕ) → d.in_sysex ≡ false → d.status ≡ s.None → b < 0x80
     → walk d store (b ∷ bs) ≡ further 1 (walk d store bs)
 stray_byte d store b bs p q low =

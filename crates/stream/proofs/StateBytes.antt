@@ -64,7 +64,7 @@ eight_digits n h =
     together : (n : ℕ) → n < 2 ^ 64 → n % 0x1_0000_0000 + 4_294_967_296 * (n / 0x1_0000_0000 % 0x1_0000_0000) ≡ n
     together n h = omega arith
 
--- and say it: nothing is lost
+-- a state reads back from its bytes: nothing is lost
 pub state_read_back : (d : Decoder) → d.len < 2 ^ 64 → state_of (encoded d) ≡ d
 state_read_back d h = go d.in_sysex d.status
   where
@@ -99,7 +99,7 @@ fourteen l e =
     one : (j : ℕ) {rest : List ℕ} → j < length l → drop (suc j) l ≡ rest → drop j l ≡ get_or l j 0 ∷ rest
     one j h q = drop-cons l j 0 h ∙ ap (λ (t : List ℕ). get_or l j 0 ∷ t) q
 
--- a flag, and a status with its flag
+-- a flag, and a status with its flag, are written back as they were read
 bit_back : (b : ℕ) → b ≤ 1 → flag (eqb b 1) ≡ b
 bit_back zero h = refl
 bit_back (suc zero) h = refl
@@ -110,7 +110,7 @@ status_back zero b h e = (refl, sym (eqb-true b 0 e))
 status_back (suc zero) b h e = (refl, refl)
 status_back (suc (suc n)) b h e = absurd (omega arith)
 
--- and bytes that are a state's are written back as they were
+-- bytes that are a state's are written back as they were
 pub written_back : (l : List ℕ) → is_state l ≡ true → ((i : ℕ) → get_or l i 0 < 256) → encoded (state_of l) ≡ l
 written_back l is bytes =
     let p = both (eqb (length l) 14) _ is in

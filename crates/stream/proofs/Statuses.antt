@@ -75,7 +75,7 @@ never : (t : Bool) → false ≡ (t && false)
 never true = refl
 never false = refl
 
--- none is
+-- a word below 256: no byte is pending
 module _ (w a : ℕ) (few : w < 0x100) where
   same : w % 256 ≡ w
   same = omega arith
@@ -111,7 +111,7 @@ module _ (w a : ℕ) (few : w < 0x100) where
       (λ t. rw t (no_data (ap data_length (eqb-true w 0xF0 t) ∙ none_of_start)))
       (λ t. rw t (some_data (omega (arith, l), omega (arith, h), eqb-false w 0xF0 t)))
 
--- one is, or more
+-- a word of 256 or more: one byte is pending, or more
 module _ (w a : ℕ) (some : 0x100 ≤ w) where
   pub pending_none : w < 0x180 → false ≡ Waits w a
   pending_none h = rw (none_of_data (w % 256) (omega arith))

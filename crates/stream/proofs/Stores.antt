@@ -60,7 +60,7 @@ module _ (l : List ℕ) (free : FrontFree l) (v : RunningStatus) (h a m : ℕ) (
   pub both_stored : (z : ℕ) → put_waiting m a (set l 13 z) ≡ encoded (closed_of v h a z)
   both_stored z = ap (λ (x : List ℕ). put_waiting m a (set x 13 z)) (front_known l free) ∙ rw (digits.0, digits.1, digits.2, digits.3) refl
 
--- a frame of n bytes
+-- what is stored in a frame: its n bytes, no frame, or no frame and a status
 module _ (l : List ℕ) (free : MiddleFree l) where
   pub open_stored : (n : ℕ) → n ≤ limit → put_word (1 + 256 * n) l 0 ≡ encoded (open_state n l)
   open_stored n h = ap (λ (x : List ℕ). put_word (1 + 256 * n) x 0) (middle_known l free) ∙ rw (d0, d1, d2, d3, d4, d5, d6, d7, top) refl
@@ -95,11 +95,11 @@ module _ (l : List ℕ) (free : MiddleFree l) where
       top : n / 0x100_0000_0000_0000 % 256 ≡ 0
       top = omega (arith, small)
 
-  -- and none
+  -- 0 stored as the first word leaves no frame
   pub closed_stored : (n : ℕ) → put_word 0 l 0 ≡ encoded (cleared (open_state n l))
   closed_stored n = ap (λ (x : List ℕ). put_word 0 x 0) (middle_known l free)
 
-  -- none, and a status
+  -- 0 and a status's number leave no frame, and the status
   pub held_stored : (n b : ℕ) → b < 256 → put_middle (held_number b) (put_word 0 l 0) ≡ encoded (holding (open_state n l) b)
   held_stored n b small =
       let d = four_stored (held_number b) 1 b 0 (omega arith) small (omega arith) (omega arith) in

@@ -31,7 +31,7 @@ numbers n kind v a b = record { number = 0; used = n; interrupted = 0; kind = ki
 alike : (n kind v v' a a' b b' : ℕ) → v ≡ v' → a ≡ a' → b ≡ b' → numbers n kind v a b ≡ numbers n kind v' a' b'
 alike n kind v v' a a' b b' p q r = rw (p, q, r)
 
--- by the status byte's high four bits
+-- the numbers of a channel message, by its status byte's high four bits
 module _ (v a b n : ℕ) (low : a < 0x80) (low₂ : b < 0x80) where
   abbrev Plain : Type 0
   Plain = Told (message_report v a b) n (numbers n 1 v a b)
@@ -123,7 +123,7 @@ one_common v a n e h low =
     last : v < 0xF4 → (v ≡ 0xF0 → ⊥) → (v ≡ 0xF1 → ⊥) → (v ≡ 0xF2 → ⊥) → v ≡ 0xF3
     last s p q w = omega arith
 
--- a message of two
+-- a message of two data bytes
 pub two_plain : (v a b n : ℕ) → data_length v ≡ 2 → v < 0xC0 → a < 0x80 → b < 0x80 → Told (message_report v a b) n (numbers n 1 v a b)
 two_plain v a b n e h low low₂ = plain_told v a b n low low₂ (held v 2 e (omega arith)).0 h
 
@@ -135,7 +135,7 @@ pub two_common : (v a b n : ℕ) → data_length v ≡ 2 → 0xF0 ≤ v → a < 
 two_common v a b n e h low low₂ =
     subst (λ (y : ℕ). Told (message_report y a b) n (numbers n 3 y (a + 128 * b) 0)) (sym (position v e h)) (told_F2 a b n low low₂)
 
--- whatever the data, such a message is reported
+-- a status that takes data has a report, whatever the data bytes
 pub message_some : (v a b : ℕ) → 0 < data_length v → a < 0x80 → b < 0x80 → some_report (message_report v a b) ≡ true
 message_some v a b h low low₂ =
     let r = takes_data_held v h in

@@ -30,7 +30,7 @@ module _ (l : List ℕ) (free : FrontFree l) (m v n : ℕ) (is : v ≡ status_in
   abbrev Ends : ℕ → ℕ → ℕ → Type 0
   Ends a b z = (r ≡ numbers_of n false (message_report (status_in m) a b)) × (later ≡ encoded (completed (status_in m) a z))
 
-  -- with what is kept of it
+  -- the answer and the bytes are the definition's, given the status that is kept
   ends_so : (a b z : ℕ) (x : RunningStatus) → kept v ≡ x → r ≡ numbers_of n false (message_report v a b) → later ≡ encoded (closed_of x 0 a z) → Ends a b z
   ends_so a b z x e t q = (
     t ∙ ap (λ (y : ℕ). numbers_of n false (message_report y a b)) is,
@@ -50,7 +50,7 @@ module _ (l : List ℕ) (free : FrontFree l) (m v n : ℕ) (is : v ≡ status_in
     low : 0x80 ≤ v
     low = (held v k takes some).0
 
-  -- the only data byte
+  -- the only data byte of a message ends it
   module _ (a : ℕ) (under : Under m 1) (data_byte : a < 0x80) where
     pub channel_of_one : v < 0xF0 → r ≡ numbers n 1 v a 0 → later ≡ put_waiting m a l → Ends a 0 (get_or l 13 0)
     channel_of_one h t q =
@@ -63,7 +63,7 @@ module _ (l : List ℕ) (free : FrontFree l) (m v n : ℕ) (is : v ≡ status_in
         ends_so a 0 (get_or l 13 0) s.None (goes v h) (t ∙ (one_common v a n (takes 1 (omega arith) under) h data_byte).numbers)
         (q ∙ waiting_stored l free s.None 0 a 0 (omega arith) (omega arith) refl)
 
-  -- the second of two
+  -- the second of two data bytes ends the message
   module _ (a b : ℕ) (under : Under m 2) (data_byte : a < 0x80) (data-byte₂ : b < 0x80) where
     stored : v < 0xF0 → later ≡ put_waiting m a (set l 13 b) → later ≡ encoded (closed_of (s.Status v) 0 a b)
     stored h q = q ∙ both_stored l free (s.Status v) 0 a m byte (omega arith) (number under.0) b

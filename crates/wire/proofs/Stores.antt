@@ -14,6 +14,6 @@ pub put_stores : (n a b d : ℕ) (out later : List ℕ) → n ≤ 3 → n ≤ le
 put_stores n a b d out later three room l =
     stored (take n (a ∷ b ∷ d ∷ [])) out later n (length-take-le n (a ∷ b ∷ d ∷ []) three) room l
 
--- from three on, all three
+-- three bytes or more of three are all three
 pub all_three : (n a b d : ℕ) → 3 ≤ n → take 3 (a ∷ b ∷ d ∷ []) ≡ take n (a ∷ b ∷ d ∷ [])
 all_three n a b d h = sym (take_all n (a ∷ b ∷ d ∷ []) h)

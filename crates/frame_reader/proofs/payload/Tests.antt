@@ -34,7 +34,7 @@ not_unpacked raw n e h = go (not (eqb (n % 8) 1)) h
     go true g = absurd (given_not_refused (unpacked_length n) (number_of e) (values_of e) g)
     go false g = refl
 
--- the others by what they hold
+-- a length that unpacks is accepted by how many raw bytes it holds
 pub unpacked_holds : (raw n held : ℕ) → gives held ≡ unpacked_length_of n → accepted raw n ≡ (leb raw held && ltb held (raw + 7))
 unpacked_holds raw n held h =
     let g = unpacked_given n held h in
@@ -102,18 +102,18 @@ most_named y.any v = omega arith
 pub raw_small : (c : Command) (v : ℕ) → raw_length_for c v ≤ 2048
 raw_small c v = omega (arith, most_named (payload_of c).run v, leb-true (raw_length_for c 7) 2048 (of_every (λ j. leb (raw_length_for j 7) 2048) refl c))
 
--- behind the version: the further prefix is missing
+-- a payload with a version but without all of its prefix is refused with 7
 pub run_too_short : (c : Command) (v : ℕ) (p : List ℕ) → length p < prefix_length c → refused 7 (code_of c ∷ prefix_length c ∷ length p ∷ []) ≡ read_run c v p
 unfolding read_run
 run_too_short c v p h = rw (lt-leb (prefix_length c) (length p) h)
 
--- the calibration's run
+-- the calibration's run is refused with 13 where its length is 1 mod 8
 pub any_run : (c : Command) (v : ℕ) (p : List ℕ) → prefix_length c ≤ length p → code_of c ≡ 0x12
     → unless (not (eqb ((length p - prefix_length c) % 8) 1)) 13 ((length p - prefix_length c) ∷ []) (read_fields c false p) ≡ read_run c v p
 unfolding read_run
 any_run c v p h e = rw (le-leb (prefix_length c) (length p) h, any_is c, eq-eqb (code_of c) 0x12 e, unnumbered c (numbered_by (length p)) p e)
 
--- every other run
+-- every run but the calibration's is tested by the accepted lengths
 pub named_run : (c : Command) (v : ℕ) (p : List ℕ) (a : Bool) → prefix_length c ≤ length p → (code_of c ≡ 0x12 → ⊥)
     → accepted (raw_length_for c v) (length p - prefix_length c) ≡ a
     → read_run c v p

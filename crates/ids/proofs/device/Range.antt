@@ -28,7 +28,7 @@ device_case n x false false below is_all e = absurd (given_not_refused x 5 (n �
 pub device_in_range_lem : (n : ℕ) (x : DeviceId) → device_of n ≡ gives x → (device_byte x ≡ n) × (device_in_range x ≡ true)
 device_in_range_lem n x e = device_case n x (ltb n 16) (eqb n 0x7F) (λ h. h) (eqb-true n 0x7F) e
 
--- and a device in range is read back from its byte
+-- a device in range is read back from its byte
 pub device_reads_back : (x : DeviceId) → device_in_range x ≡ true → device_of (device_byte x) ≡ gives x
 device_reads_back (d.Unit n) h = rw h
 device_reads_back d.Broadcast h = refl

@@ -11,7 +11,7 @@ use lib.Seq.{drop-cons, drop-drop, set_at, take-suc, take_at, take_all, append_s
 abbrev pub copied : List ℕ → List ℕ → ℕ → List ℕ
 copied from to n = take n from ++ drop n to
 
--- one byte more
+-- storing one byte more copies one byte more
 pub copied_more : (from to l : List ℕ) (i j : ℕ) → j ≡ i + 1 → i < length from → length from ≤ length to → l ≡ copied from to i
     → set l i (get_or from i 0) ≡ copied from to j
 copied_more from to l i j e h room s =
@@ -47,14 +47,14 @@ copied_eight from to l i n e h room s =
     more : {k : List ℕ} (j m : ℕ) → m ≡ j + 1 → j < length from → k ≡ copied from to j → set k j (get_or from j 0) ≡ copied from to m
     more {k} j m p q t = copied_more from to k j m p q room t
 
--- a list whose front is another's already
+-- a list whose front is another's already is the copy of that front
 pub copied_front : (from to : List ℕ) (n : ℕ) → take n to ≡ take n from → to ≡ copied from to n
 copied_front from to n e = sym (take-append-drop n to) ∙ ap (λ (front : List ℕ). front ++ drop n to) e
 
 pub front_copied : (from to : List ℕ) (n : ℕ) → n ≤ length from → take n (copied from to n) ≡ take n from
 front_copied from to n h = take_at (take n from) (drop n to) n (length-take-le n from h)
 
--- what stands behind is as it was
+-- what stands behind a copied front is as it was
 pub behind_copied : (from to : List ℕ) (n j : ℕ) → n ≤ length from → n ≤ j → drop j (copied from to n) ≡ drop j to
 behind_copied from to n j h e =
     let seam : length (take n from) ≡ n = length-take-le n from h in

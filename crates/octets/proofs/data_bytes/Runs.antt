@@ -23,7 +23,7 @@ pub run_other : (b : ℕ) (l : List ℕ) → 0x80 ≤ b → data_run (b ∷ l) �
 unfolding data_run
 run_other b l h = rw (le-ltb b 0x80 h)
 
--- a byte is one or the other
+-- a byte ahead of a list is a data byte, and lengthens the run by one, or it is not, and there is no run
 pub by_byte : {P : Type 0} (b : ℕ) (l : List ℕ) → (b < 0x80 → data_run (b ∷ l) ≡ suc (data_run l) → P) → (0x80 ≤ b → data_run (b ∷ l) ≡ 0 → P) → P
 by_byte b l f g =
     split (ltb b 0x80) (λ t. f (ltb-true b 0x80 t) (run_data b l (ltb-true b 0x80 t)))
@@ -33,13 +33,13 @@ pub run_within : (l : List ℕ) → data_run l ≤ length l
 run_within [] = omega (arith, run_none)
 run_within (b ∷ l) = by_byte b l (λ _ e. omega (arith, e, run_within l)) (λ _ e. omega (arith, e))
 
--- within the run a data byte
+-- every byte within the run is a data byte
 pub run_below : (l : List ℕ) (i : ℕ) → i < data_run l → get_or l i 0 < 0x80
 run_below [] i h = absurd (omega (arith, run_none, h))
 run_below (b ∷ l) zero h = by_byte b l (λ low _. low) (λ _ e. absurd (omega (arith, e, h)))
 run_below (b ∷ l) (suc i) h = by_byte b l (λ _ e. run_below l i (omega (arith, e, h))) (λ _ e. absurd (omega (arith, e, h)))
 
--- right behind it another byte, where there is one
+-- the byte right behind the run, where there is one, is no data byte
 pub run_stop : (l : List ℕ) → data_run l < length l → 0x80 ≤ get_or l (data_run l) 0
 run_stop [] h = absurd (omega (arith, run_none, h))
 run_stop (b ∷ l) h = by_byte b l (λ _ e. rw e (run_stop l (omega (arith, e, h)))) (λ high e. rw e high)
@@ -54,7 +54,7 @@ run_more l i h within low = split (ltb i (data_run l)) (λ t. omega (arith, ltb-
         let stop : 0x80 ≤ get_or l i 0 = subst (λ (k : ℕ). 0x80 ≤ get_or l k 0) e (run_stop l (omega (arith, e, within))) in
         absurd (omega (arith, stop, low))
 
--- another byte right behind what was seen of the run ends it
+-- a byte that is no data byte, right behind what was seen of the run, ends it
 pub run_ends : (l : List ℕ) (i : ℕ) → i ≤ data_run l → 0x80 ≤ get_or l i 0 → i ≡ data_run l
 run_ends l i h high = split (ltb i (data_run l)) (λ t. absurd (omega (arith, run_below l i (ltb-true i (data_run l) t), high))) (λ t. omega (arith, h, ltb-false i (data_run l) t))
 
@@ -65,7 +65,7 @@ run_drop [] (suc n) h = absurd (omega (arith, run_none, h))
 run_drop (b ∷ l) (suc n) h =
     by_byte b l (λ _ e. omega (arith, e, run_drop l n (omega (arith, e, h)))) (λ _ e. absurd (omega (arith, e, h)))
 
--- of the first n bytes
+-- the run of the first n bytes is the whole list's, cut at n
 pub run_take : (l : List ℕ) (n : ℕ) → data_run (take n l) ≡ min n (data_run l)
 run_take l zero = run_none ∙ sym (zero-min (data_run l))
 run_take [] (suc n) = run_none ∙ sym (min-zero (suc n)) ∙ ap (min (suc n)) (sym run_none)
@@ -78,12 +78,12 @@ abbrev pub AllData : List ℕ → Type 0
 AllData [] = Unit {0}
 AllData (b ∷ l) = (b < 0x80) × AllData l
 
--- the run's bytes are
+-- every byte of the run is a data byte
 pub run_front : (l : List ℕ) → AllData (take (data_run l) l)
 run_front [] = rw run_none (tt)
 run_front (b ∷ l) = by_byte b l (λ low e. rw e ((low, run_front l))) (λ _ e. rw e (tt))
 
--- and such bytes ahead make the run as much longer
+-- data bytes ahead of a list make its run as much longer
 pub run_append : (l k : List ℕ) → AllData l → data_run (l ++ k) ≡ length l + data_run k
 run_append [] k h = sym (zero-add (data_run k))
 run_append (b ∷ l) k h = run_data b (l ++ k) h.0 ∙ ap suc (run_append l k h.1) ∙ sym (suc-add (length l) (data_run k))
