@@ -62,7 +62,7 @@ benchmark: lib
 	@$(call need,"the benchmark beside the original Rust (DEEPMIND_SRC names its sources)" cargo cc objcopy "$(SOURCES)/deepmind-midi"); \
 	mkdir -p target/benchmark && objcopy --set-section-alignment '.text.*=64' $(LIBRARY) target/benchmark/$(notdir $(LIBRARY)) && \
 	ENGINE_LIB=$(abspath target/benchmark) RUSTFLAGS="-D warnings -C llvm-args=-align-all-functions=6" \
-	cargo build $(subst target/compare,target/benchmark,$(IN_COMPARE)) -p benchmark && target/benchmark/release/benchmark docs
+	cargo build $(subst target/compare,target/benchmark,$(IN_COMPARE)) -p benchmark && KIT='$(KIT)' target/benchmark/release/benchmark docs
 
 # How many bytes of stack each entry point takes at most.
 stack: lib

@@ -1,5 +1,6 @@
 //! The table: on standard output, and as a page.
 
+use std::env;
 use std::env::consts::{ARCH, OS};
 use std::thread::available_parallelism;
 
@@ -38,10 +39,11 @@ impl Row {
     }
 }
 
-/// The page.
+/// The page. KIT, where it is set, names the kit that built the engine.
 #[must_use]
 pub fn page(rows: &[Row], effort: Effort) -> String {
     let processors = available_parallelism().map_or(1, usize::from);
+    let kit = env::var("KIT").map_or_else(|_| String::new(), |kit| format!(", the engine by {kit}"));
     let repeats = effort.rounds * effort.repeats;
     let table: Vec<String> = rows.iter().map(Row::of_page).collect();
     let met = rows.iter().filter(|row| row.time <= row.goal).count();
@@ -66,7 +68,7 @@ one machine on one day. The time's last digit still moves from run to run; instr
 - The engine's decoder returns at each report and is called again with what is left; the original's takes a whole piece and calls back. A writer
   gets its record ready-made: the engine as plain numbers, which it tests, the original as a value of its own types, which were tested before.
 
-Measured on: {ARCH}, {OS}, {processors} processors. {met} of {} workloads reach their goal.
+Measured on: {ARCH}, {OS}, {processors} processors{kit}. {met} of {} workloads reach their goal.
 
 | workload | time | goal | instructions | memcpy | what it is |
 |---|---|---|---|---|---|
