@@ -1,4 +1,4 @@
-# The two commands: `make monitor` shows a sample in words, `make test` is the whole gate from nothing.
+# The two commands: `make monitor` shows a sample in words, `make test` is the whole gate.
 # `make test` asks for the kit, runs `rt ci`, and then the tests that stand outside Rattle over what rt ci proved; rt ci's last line,
 # 'N passed, 0 failed', is printed behind all of them, and only if all passed and no must-fail edit was bad. What needs Rust, a C compiler,
 # valgrind or the original's sources is skipped aloud where they are missing; with CI=true they must be there.
@@ -7,7 +7,7 @@ KIT := rattle-kit-13f logic dac8208d650f15bf
 SOURCES := $(or $(DEEPMIND_SRC),../shared/docs/src)
 export DEEPMIND_SRC := $(abspath $(SOURCES))
 LIBRARY := target/staticlib/libcobnutdrill.a
-PROVED := crates.txt $(shell find crates -type f -not -path '*/out/*')
+PROVED := Makefile crates.txt crates $(shell find crates -mindepth 2 -name out -prune -o -print)
 # What make itself is called: $(MAKE) in a recipe would run that line under `make -n` too.
 SELF := $(MAKE)
 CARGO := RUSTFLAGS="-D warnings" cargo

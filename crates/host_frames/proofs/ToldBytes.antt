@@ -86,7 +86,7 @@ told_are_bytes bytes r e =
       tx = rw (own (λ f. f.tx)) (v y.transmit);
     })
 
--- of a refused frame every such number is 0: so all that dm_frame_read ever tells fits
+-- of a refused frame every such number is 0: so every such number that dm_frame_read ever tells fits
 pub all_told_are_bytes : (bytes : List ℕ) (a : ReadAnswer) → a ≡ read_answer (read_record bytes) bytes → ToldBytes a
 all_told_are_bytes bytes a told = subst ToldBytes (sym told) (go (read_record bytes) refl)
   where
