@@ -6,7 +6,6 @@ use Rattle.frame_reader.proofs.read_header.Goals as goal
 
 pub returns-in-Err-read_payload : goal.returns-in-Err-read_payload
 returns-in-Err-read_payload c =
-    let read_payload = c.read_payload in
     rw (
       le-leb 8 _ c.if-len-lt8.false,
       sym c.same_bytes.ensures ∙ c.if-not-same_bytes.false,
@@ -16,13 +15,12 @@ returns-in-Err-read_payload c =
       c.in-Ok-from_byte.is,
       ← payload_part
           c.args.bytes.now,
-      ← read_payload.ensures,
+      ← c.read_payload.ensures,
       c.in-Err-read_payload.is,
     )
 
 pub returns-in-Ok-read_payload : goal.returns-in-Ok-read_payload
 returns-in-Ok-read_payload c =
-    let read_payload = c.read_payload in
     rw (
       le-leb 8 _ c.if-len-lt8.false,
       sym c.same_bytes.ensures ∙ c.if-not-same_bytes.false,
@@ -32,6 +30,6 @@ returns-in-Ok-read_payload c =
       c.in-Ok-from_byte.is,
       ← payload_part
           c.args.bytes.now,
-      ← read_payload.ensures,
+      ← c.read_payload.ensures,
       c.in-Ok-read_payload.is,
     )

@@ -11,20 +11,10 @@ returns-then-not-is_framed c = rw (sym c.is_framed.ensures ∙ c.if-not-is_frame
 pub returns-in-Some : goal.returns-in-Some
 unfolding read_record
 returns-in-Some c =
-    let a = c.args in
-    let is_framed = c.is_framed in
-    let if1 = c.if-not-is_framed in
-    let first_high = c.first_high in
-    let b = a.bytes.now in
-    rw (sym is_framed.ensures ∙ if1.false, ← body_part b, ← first_high.ensures, c.in-Some.is)
+    rw (sym c.is_framed.ensures ∙ c.if-not-is_framed.false, ← body_part c.args.bytes.now, ← c.first_high.ensures, c.in-Some.is)
 
 pub returns-in-None : goal.returns-in-None
 unfolding read_record
 returns-in-None c =
-    let a = c.args in
-    let is_framed = c.is_framed in
-    let if1 = c.if-not-is_framed in
-    let first_high = c.first_high in
-    let b = a.bytes.now in
     c.read_header.ensures
-    ∙ rw (sym is_framed.ensures ∙ if1.false, ← body_part b, ← first_high.ensures, c.in-None.is)
+    ∙ rw (sym c.is_framed.ensures ∙ c.if-not-is_framed.false, ← body_part c.args.bytes.now, ← c.first_high.ensures, c.in-None.is)

@@ -6,8 +6,7 @@ use Rattle.frame_writer.proofs.put_frame.Goals as goal
 
 pub returns : goal.returns
 returns c = let a = c.args in
-    let s = c.put_header.new.out in
     let n = c.copy_into in
     let m = c.copy_into-2 in
-    frame_put (header a.device a.code) a.prefix.now a.run.now a.out.now s n.new.to m.new.to refl
+    frame_put (header a.device a.code) a.prefix.now a.run.now a.out.now c.put_header.new.out n.new.to m.new.to refl
     c.requires c.put_header.ensures n.ensures _ refl m.ensures

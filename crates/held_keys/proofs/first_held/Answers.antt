@@ -8,9 +8,13 @@ use Rattle.held_keys.proofs.first_held.Goals as goal
 pub loop-key-preserved : goal.loop-key-preserved
 unfolding is_held
 loop-key-preserved c = let a = c.args in
-    let l = c.loop-key in
-    let ch = c.channels.channel in
-    (l.invariant.0, omega arith, l.invariant.2, passed_key a.keys ch l.key c.loop-key-test.true (sym c.bit_set.ensures ∙ c.if-bit_set.false) l.invariant.3)
+    let l = c.loop-key in (
+      l.invariant.0,
+      omega arith,
+      l.invariant.2,
+      passed_key a.keys c.channels.channel l.key c.loop-key-test.true
+          (sym c.bit_set.ensures ∙ c.if-bit_set.false) l.invariant.3,
+    )
 
 pub returns-after-channels : goal.returns-after-channels
 returns-after-channels c = let a = c.args in
@@ -21,5 +25,4 @@ pub returns-then-bit_set : goal.returns-then-bit_set
 unfolding is_held
 returns-then-bit_set c = let a = c.args in
     let l = c.loop-key in
-    let ch = c.channels.channel in
-    sym (found_key a.keys ch l.key l.invariant.0 c.loop-key-test.true l.invariant.3 (sym c.bit_set.ensures ∙ c.if-bit_set.true))
+    sym (found_key a.keys c.channels.channel l.key l.invariant.0 c.loop-key-test.true l.invariant.3 (sym c.bit_set.ensures ∙ c.if-bit_set.true))

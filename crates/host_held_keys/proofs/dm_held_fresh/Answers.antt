@@ -5,7 +5,5 @@ use Rattle.host_held_keys.proofs.dm_held_fresh.Goals as goal
 pub returns : goal.returns
 returns c =
     let new = c.new in
-    let if1 = c.if-keys-ne-HELD_LEN in
-    let a = c.args in
     let p = c.put_keys in
-    fresh_written a.keys.now p.new.bytes new.result c.done.result if1.false new.ensures p.ensures c.done.ensures
+    fresh_written c.args.keys.now p.new.bytes new.result c.done.result c.if-keys-ne-HELD_LEN.false new.ensures p.ensures c.done.ensures

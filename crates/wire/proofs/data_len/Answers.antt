@@ -17,39 +17,41 @@ returns-then-status-lt224 c = rw (le-ltb _ _ c.if-status-lt128.false, le-ltb _ _
 
 pub returns-then-status-lt240 : goal.returns-then-status-lt240
 unfolding data_length
-returns-then-status-lt240 c = rw (le-ltb _ _ c.if-status-lt128.false, le-ltb _ _ c.if-status-lt192.false, le-ltb _ _ c.if-status-lt224.false, lt-ltb _ _ c.if-status-lt240.true)
+returns-then-status-lt240 c =
+    rw (le-ltb _ _ c.if-status-lt128.false, le-ltb _ _ c.if-status-lt192.false, le-ltb _ _ c.if-status-lt224.false, lt-ltb _ _ c.if-status-lt240.true)
 
 pub returns-then-status-eq241 : goal.returns-then-status-eq241
 unfolding data_length
 returns-then-status-eq241 c =
-    let if1 = c.if-status-lt128 in
-    let if2 = c.if-status-lt192 in
-    let if3 = c.if-status-lt224 in
-    rw (le-ltb _ _ if1.false, le-ltb _ _ if2.false, le-ltb _ _ if3.false, le-ltb _ _ c.if-status-lt240.false, eq-eqb _ _ c.if-status-eq241.true)
+    rw (
+      le-ltb _ _ c.if-status-lt128.false,
+      le-ltb _ _ c.if-status-lt192.false,
+      le-ltb _ _ c.if-status-lt224.false,
+      le-ltb _ _ c.if-status-lt240.false,
+      eq-eqb _ _ c.if-status-eq241.true,
+    )
 
 pub returns-then-status-eq242 : goal.returns-then-status-eq242
 unfolding data_length
 returns-then-status-eq242 c =
-    let if1 = c.if-status-lt128 in
-    let if2 = c.if-status-lt192 in
-    let if3 = c.if-status-lt224 in
-    let if4 = c.if-status-lt240 in
-    rw (le-ltb _ _ if1.false, le-ltb _ _ if2.false, le-ltb _ _ if3.false, le-ltb _ _ if4.false, ne_eqb _ _ c.if-status-eq241.false, eq-eqb _ _ c.if-status-eq242.true)
+    rw (
+      le-ltb _ _ c.if-status-lt128.false,
+      le-ltb _ _ c.if-status-lt192.false,
+      le-ltb _ _ c.if-status-lt224.false,
+      le-ltb _ _ c.if-status-lt240.false,
+      ne_eqb _ _ c.if-status-eq241.false,
+      eq-eqb _ _ c.if-status-eq242.true,
+    )
 
 pub returns-then-status-eq243 : goal.returns-then-status-eq243
 unfolding data_length
 returns-then-status-eq243 c =
-    let if1 = c.if-status-lt128 in
-    let if2 = c.if-status-lt192 in
-    let if3 = c.if-status-lt224 in
-    let if4 = c.if-status-lt240 in
-    let if5 = c.if-status-eq241 in
     rw (
-      le-ltb _ _ if1.false,
-      le-ltb _ _ if2.false,
-      le-ltb _ _ if3.false,
-      le-ltb _ _ if4.false,
-      ne_eqb _ _ if5.false,
+      le-ltb _ _ c.if-status-lt128.false,
+      le-ltb _ _ c.if-status-lt192.false,
+      le-ltb _ _ c.if-status-lt224.false,
+      le-ltb _ _ c.if-status-lt240.false,
+      ne_eqb _ _ c.if-status-eq241.false,
       ne_eqb _ _
           c.if-status-eq242.false,
       eq-eqb _ _ c.if-status-eq243.true,
@@ -58,17 +60,12 @@ returns-then-status-eq243 c =
 pub returns : goal.returns
 unfolding data_length
 returns c =
-    let if1 = c.if-status-lt128 in
-    let if2 = c.if-status-lt192 in
-    let if3 = c.if-status-lt224 in
-    let if4 = c.if-status-lt240 in
-    let if5 = c.if-status-eq241 in
     rw (
-      le-ltb _ _ if1.false,
-      le-ltb _ _ if2.false,
-      le-ltb _ _ if3.false,
-      le-ltb _ _ if4.false,
-      ne_eqb _ _ if5.false,
+      le-ltb _ _ c.if-status-lt128.false,
+      le-ltb _ _ c.if-status-lt192.false,
+      le-ltb _ _ c.if-status-lt224.false,
+      le-ltb _ _ c.if-status-lt240.false,
+      ne_eqb _ _ c.if-status-eq241.false,
       ne_eqb _ _
           c.if-status-eq242.false,
       ne_eqb _ _ c.if-status-eq243.false,

@@ -19,7 +19,6 @@ walk-requires c = omega (arith, limit_is)
 pub returns : goal.returns
 returns c = let a = c.args in
     let w = c.walk in
-    let s = c.is_sound in
     let room : limit ≤ length a.store.now = omega (arith, limit_is) in
     feeds _ _ w.result a.store.now w.new.store
-    (ready_walks a.self a.store.now a.bytes.now room (sym s.ensures ∙ c.if-not-is_sound.false)) w.ensures
+    (ready_walks a.self a.store.now a.bytes.now room (sym c.is_sound.ensures ∙ c.if-not-is_sound.false)) w.ensures

@@ -13,9 +13,5 @@ returns-then-len-gt-MAX_SYSEX_LEN c = let a = c.args in
 
 pub returns-then-self : goal.returns-then-self
 returns-then-self c =
-    let if1 = c.if-self in
-    let if2 = c.if-len-lt1 in
-    let is_none = c.is_none in
-    let a = c.args in
-    let fits : a.self.len ≤ limit = omega (arith, limit_is) in
-    rw (if1.true, le-leb 1 _ if2.false, le-leb _ limit fits, ← is_none.ensures, c.if-not-is_none.false)
+    let fits : c.args.self.len ≤ limit = omega (arith, limit_is) in
+    rw (c.if-self.true, le-leb 1 _ c.if-len-lt1.false, le-leb _ limit fits, ← c.is_none.ensures, c.if-not-is_none.false)

@@ -18,12 +18,10 @@ returns-then-not-self c = let a = c.args in
 
 pub returns-then-at-ge-MAX_SYSEX_LEN : goal.returns-then-at-ge-MAX_SYSEX_LEN
 returns-then-at-ge-MAX_SYSEX_LEN c =
-    let if1 = c.if-not-self in
-    let class_of = c.class_of-class in
     let a = c.args in
     let over : limit ≤ a.self.len = omega (arith, limit_is) in
-    let eqs = data_over a.self a.store.now a.byte (not-false a.self.in_sysex if1.false) over in
-    step_by k.Data a.self a.store.now a.byte (sym class_of.ensures ∙ c.in-Data.is) _ _
+    let eqs = data_over a.self a.store.now a.byte (not-false a.self.in_sysex c.if-not-self.false) over in
+    step_by k.Data a.self a.store.now a.byte (sym c.class_of-class.ensures ∙ c.in-Data.is) _ _
     (c.too_long.ensures ∙ sym eqs.0) (sym eqs.1)
 
 pub bounds-store-at : goal.bounds-store-at
@@ -37,35 +35,28 @@ bounds-store-0 c = omega (arith, room_for_three)
 
 pub returns-then-not-self-2 : goal.returns-then-not-self-2
 returns-then-not-self-2 c =
-    let class_of = c.class_of-class in
-    let cleared3 = c.cleared-next in
     let a = c.args in
     let eqs = end_plain a.self a.store.now a.byte (not-true a.self.in_sysex c.if-not-self-2.true) in
-    step_by k.End a.self a.store.now a.byte (sym class_of.ensures ∙ c.in-End.is) _ _
-    (c.silent-then-not-self-2.ensures ∙ ap silent cleared3.ensures ∙ sym eqs.0) (sym eqs.1)
+    step_by k.End a.self a.store.now a.byte (sym c.class_of-class.ensures ∙ c.in-End.is) _ _
+    (c.silent-then-not-self-2.ensures ∙ ap silent c.cleared-next.ensures ∙ sym eqs.0) (sym eqs.1)
 
 pub bounds-store-at-then-at-lt-MAX_SYSEX_LEN : goal.bounds-store-at-then-at-lt-MAX_SYSEX_LEN
 bounds-store-at-then-at-lt-MAX_SYSEX_LEN c = omega (arith, limit_is)
 
 pub returns-then-at-lt-MAX_SYSEX_LEN : goal.returns-then-at-lt-MAX_SYSEX_LEN
 returns-then-at-lt-MAX_SYSEX_LEN c =
-    let if3 = c.if-not-self-2 in
-    let class_of = c.class_of-class in
-    let cleared3 = c.cleared-next in
     let a = c.args in
     let fits : a.self.len < limit = omega (arith, limit_is) in
-    let eqs = end_fits a.self a.store.now a.byte (not-false a.self.in_sysex if3.false) fits in
-    step_by k.End a.self a.store.now a.byte (sym class_of.ensures ∙ c.in-End.is) _ _
-    (rw (c.reporting.ensures, cleared3.ensures) (sym eqs.0)) (sym eqs.1)
+    let eqs = end_fits a.self a.store.now a.byte (not-false a.self.in_sysex c.if-not-self-2.false) fits in
+    step_by k.End a.self a.store.now a.byte (sym c.class_of-class.ensures ∙ c.in-End.is) _ _
+    (rw (c.reporting.ensures, c.cleared-next.ensures) (sym eqs.0)) (sym eqs.1)
 
 pub returns-else-at-ge-MAX_SYSEX_LEN : goal.returns-else-at-ge-MAX_SYSEX_LEN
 returns-else-at-ge-MAX_SYSEX_LEN c =
-    let if1 = c.if-not-self in
-    let class_of = c.class_of-class in
     let a = c.args in
     let fits : a.self.len < limit = omega (arith, limit_is) in
-    let eqs = data_fits a.self a.store.now a.byte (not-false a.self.in_sysex if1.false) fits in
-    step_by k.Data a.self a.store.now a.byte (sym class_of.ensures ∙ c.in-Data.is) _ _
+    let eqs = data_fits a.self a.store.now a.byte (not-false a.self.in_sysex c.if-not-self.false) fits in
+    step_by k.Data a.self a.store.now a.byte (sym c.class_of-class.ensures ∙ c.in-Data.is) _ _
     (rw (c.silent.ensures, c.longer.ensures) (sym eqs.0)) (sym eqs.1)
 
 pub returns-in-Held : goal.returns-in-Held
@@ -90,12 +81,10 @@ returns-in-Tune c = let a = c.args in
 
 pub returns-else-at-lt-MAX_SYSEX_LEN : goal.returns-else-at-lt-MAX_SYSEX_LEN
 returns-else-at-lt-MAX_SYSEX_LEN c =
-    let if3 = c.if-not-self-2 in
-    let class_of = c.class_of-class in
     let a = c.args in
     let over : limit ≤ a.self.len = omega (arith, limit_is) in
-    let eqs = end_over a.self a.store.now a.byte (not-false a.self.in_sysex if3.false) over in
-    step_by k.End a.self a.store.now a.byte (sym class_of.ensures ∙ c.in-End.is) _ _
+    let eqs = end_over a.self a.store.now a.byte (not-false a.self.in_sysex c.if-not-self-2.false) over in
+    step_by k.End a.self a.store.now a.byte (sym c.class_of-class.ensures ∙ c.in-End.is) _ _
     (c.too_long-in-End.ensures ∙ sym eqs.0) (sym eqs.1)
 
 pub returns-in-Realtime : goal.returns-in-Realtime

@@ -6,21 +6,19 @@ use Rattle.decoder.proofs.Decoder.walk.Goals as goal
 
 pub returns-then-reports : goal.returns-then-reports
 returns-then-reports c =
-    let loop_test = c.loop-used-test in
     let a = c.args in
     let l = c.loop-used in
     let s = c.step-done in
-    let e = walking_stops a.self a.store.now a.bytes.now l.state l.store l.used l.invariant loop_test.true s.result
+    let e = walking_stops a.self a.store.now a.bytes.now l.state l.store l.used l.invariant c.loop-used-test.true s.result
     s.new.store s.ensures.0 s.ensures.1 (sym c.reports.ensures ∙ c.if-reports.true) in
     record { told = sym (ap (λ (w : Walked). w.fed) e); left = sym (ap (λ (w : Walked). w.store) e) }
 
 pub loop-used-preserved : goal.loop-used-preserved
 loop-used-preserved c =
-    let loop_test = c.loop-used-test in
     let a = c.args in
     let l = c.loop-used in
     let s = c.step-done in
-    walking_goes_on a.self a.store.now a.bytes.now l.state l.store l.used l.invariant loop_test.true s.result s.new.store
+    walking_goes_on a.self a.store.now a.bytes.now l.state l.store l.used l.invariant c.loop-used-test.true s.result s.new.store
     s.ensures.0 s.ensures.1 (sym c.reports.ensures ∙ c.if-reports.false)
 
 pub returns : goal.returns

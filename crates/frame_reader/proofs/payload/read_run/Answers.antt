@@ -27,32 +27,26 @@ returns-then-found-prefix c = let a = c.args in
 
 pub returns-in-Err : goal.returns-in-Err
 returns-in-Err c =
-    let if1 = c.if-found-prefix in
-    let to_byte = c.to_byte-code in
-    let unpacked_len = c.unpacked_len in
     let a = c.args in
     let p = a.payload.now in
     let r = c.row-prefix in
     let e : r.result.prefix_len ≡ prefix_length a.command = ap (λ (x : Row). x.prefix_len) r.ensures in
     let n : ℕ = length p - prefix_length a.command in
-    let least : prefix_length a.command ≤ length p = omega (arith, e, if1.false) in
-    let code : code_of a.command ≡ 0x12 = omega (arith, to_byte.ensures) in
-    refused_too (not (eqb (n % 8) 1)) 13 (n ∷ []) (unpacked_length n) _ c.in-Err.e (rw e at (ap counted (sym c.in-Err.is) ∙ unpacked_len.ensures))
+    let least : prefix_length a.command ≤ length p = omega (arith, e, c.if-found-prefix.false) in
+    let code : code_of a.command ≡ 0x12 = omega (arith, c.to_byte-code.ensures) in
+    refused_too (not (eqb (n % 8) 1)) 13 (n ∷ []) (unpacked_length n) _ c.in-Err.e (rw e at (ap counted (sym c.in-Err.is) ∙ c.unpacked_len.ensures))
     ∙ any_run a.command a.version.0 p least code
 
 pub returns-in-Ok : goal.returns-in-Ok
 returns-in-Ok c =
-    let if1 = c.if-found-prefix in
-    let to_byte = c.to_byte-code in
-    let unpacked_len = c.unpacked_len in
     let a = c.args in
     let p = a.payload.now in
     let r = c.row-prefix in
     let e : r.result.prefix_len ≡ prefix_length a.command = ap (λ (x : Row). x.prefix_len) r.ensures in
     let n : ℕ = length p - prefix_length a.command in
-    let least : prefix_length a.command ≤ length p = omega (arith, e, if1.false) in
-    let code : code_of a.command ≡ 0x12 = omega (arith, to_byte.ensures) in
-    let given = unpacked_given n c.in-Ok.field-0 (rw e at (ap counted (sym c.in-Ok.is) ∙ unpacked_len.ensures)) in
+    let least : prefix_length a.command ≤ length p = omega (arith, e, c.if-found-prefix.false) in
+    let code : code_of a.command ≡ 0x12 = omega (arith, c.to_byte-code.ensures) in
+    let given = unpacked_given n c.in-Ok.field-0 (rw e at (ap counted (sym c.in-Ok.is) ∙ c.unpacked_len.ensures)) in
     c.check_small.ensures ∙ ap small_checked c.front.ensures ∙ sym (fields_tested a.command false p c.requires)
     ∙ rw given.1 at (any_run a.command a.version.0 p least code)
 
@@ -69,39 +63,28 @@ returns-then-holds c = let a = c.args in
 
 pub returns-then-is_numbered : goal.returns-then-is_numbered
 returns-then-is_numbered c =
-    let if1 = c.if-found-prefix in
-    let to_byte = c.to_byte-code in
-    let raw_len = c.raw_len-raw_len in
-    let holds = c.holds in
-    let if3 = c.if-holds in
-    let if4 = c.if-code-eq8 in
-    let is_numbered = c.is_numbered in
-    let if5 = c.if-is_numbered in
     let a = c.args in
     let p = a.payload.now in
     let r = c.row-prefix in
     let e : r.result.prefix_len ≡ prefix_length a.command = ap (λ (x : Row). x.prefix_len) r.ensures in
-    let least : prefix_length a.command ≤ length p = omega (arith, e, if1.false) in
-    let code = to_byte.ensures in
+    let least : prefix_length a.command ≤ length p = omega (arith, e, c.if-found-prefix.false) in
     let is : accepted (raw_length_for a.command a.version.0) (length p - prefix_length a.command) ≡ false =
-    rw (raw_len.ensures, e) at (sym holds.ensures ∙ if3.false) in
+    rw (c.raw_len-raw_len.ensures, e) at (sym c.holds.ensures ∙ c.if-holds.false) in
     c.check_small-then-is_numbered.ensures ∙ ap small_checked c.front-then-is_numbered.ensures ∙ sym (fields_tested a.command true p c.requires)
-    ∙ sym (run_numbered a.command a.version.0 p least (λ q. omega arith) is (sym code ∙ if4.true) (sym is_numbered.ensures ∙ if5.true))
+    ∙ sym (run_numbered a.command a.version.0 p least (λ q. omega arith) is (sym c.to_byte-code.ensures ∙ c.if-code-eq8.true)
+    (sym c.is_numbered.ensures ∙ c.if-is_numbered.true))
 
 pub returns : goal.returns
 returns c =
-    let if1 = c.if-found-prefix in
-    let to_byte = c.to_byte-code in
     let raw_len = c.raw_len-raw_len in
-    let holds = c.holds in
     let a = c.args in
     let p = a.payload.now in
     let r = c.row-prefix in
     let e : r.result.prefix_len ≡ prefix_length a.command = ap (λ (x : Row). x.prefix_len) r.ensures in
-    let least : prefix_length a.command ≤ length p = omega (arith, e, if1.false) in
-    let code = to_byte.ensures in
+    let least : prefix_length a.command ≤ length p = omega (arith, e, c.if-found-prefix.false) in
+    let code = c.to_byte-code.ensures in
     let is : accepted (raw_length_for a.command a.version.0) (length p - prefix_length a.command) ≡ false =
-    rw (raw_len.ensures, e) at (sym holds.ensures ∙ c.if-holds.false) in
+    rw (raw_len.ensures, e) at (sym c.holds.ensures ∙ c.if-holds.false) in
     let none : (eqb (code_of a.command) 0x08 && numbered_by (length p)) ≡ false =
     elim c.if-code-eq8.branch [
       | then-code-eq8+else-is_numbered w ↦ rw (eq-eqb _ 0x08 (sym code ∙ w.if-code-eq8.true), sym w.is_numbered.ensures ∙ w.if-is_numbered.false)

@@ -7,15 +7,12 @@ use Rattle.held_keys.proofs.bytes.keys_of.Goals as goal
 
 pub loop-channel-preserved : goal.loop-channel-preserved
 loop-channel-preserved c =
-    let a = c.args in
-    let shared_slice_known = c.type_inv.bytes in
-    let loop_test = c.loop-channel-test in
     let l = c.loop-channel in
-    let b = a.bytes.now in
-    let small : ((i : ℕ) → get_or b i 0 < 256) = λ i. omega (arith, shared_slice_known i) in (
+    let b = c.args.bytes.now in
+    let small : ((i : ℕ) → get_or b i 0 < 256) = λ i. omega (arith, c.type_inv.bytes i) in (
       omega arith,
       l.invariant.1,
-      channel_stored b small _ l.keys l.channel _ _ l.invariant.2 (omega (arith, l.invariant.1, loop_test.true))
+      channel_stored b small _ l.keys l.channel _ _ l.invariant.2 (omega (arith, l.invariant.1, c.loop-channel-test.true))
           c.word_at.ensures c.word_at-in-loop-channel.ensures,
     )
 

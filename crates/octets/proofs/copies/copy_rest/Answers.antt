@@ -8,14 +8,13 @@ use Rattle.octets.proofs.copies.copy_rest.Goals as goal
 
 pub loop-i-preserved : goal.loop-i-preserved
 loop-i-preserved c =
-    let asked = c.requires in
     let a = c.args in
     let l = c.loop-i in
     let n = length a.from.now / 8 * 8 in (
       omega arith,
       refl,
       refl,
-      copied_more a.from.now a.to.now l.to (n + l.i) (n + (l.i + 1)) (omega arith) (omega arith) asked.0
+      copied_more a.from.now a.to.now l.to (n + l.i) (n + (l.i + 1)) (omega arith) (omega arith) c.requires.0
           l.invariant.3,
       simp length-set l.invariant.4,
     )

@@ -9,16 +9,13 @@ use Rattle.octets.proofs.copies.copy_words.Goals as goal
 
 pub loop-w-preserved : goal.loop-w-preserved
 loop-w-preserved c =
-    let shared_slice_known = c.type_inv.from in
-    let put_word = c.put_word in
-    let asked = c.requires in
     let a = c.args in
     let l = c.loop-w in
-    let bytes : ((i : ℕ) → get_or a.from.now i 0 < 256) = λ i. omega (arith, shared_slice_known i) in
+    let bytes : ((i : ℕ) → get_or a.from.now i 0 < 256) = λ i. omega (arith, c.type_inv.from i) in
     let w = c.word_at in (
       omega arith,
       l.invariant.1,
-      put_word.ensures ∙ word_stored a.from.now l.to (l.w * 8) (l.w * 8) w.result bytes w.ensures
-          ∙ copied_eight a.from.now a.to.now l.to (l.w * 8) ((l.w + 1) * 8) (omega arith) (omega arith) asked l.invariant.2,
+      c.put_word.ensures ∙ word_stored a.from.now l.to (l.w * 8) (l.w * 8) w.result bytes w.ensures
+          ∙ copied_eight a.from.now a.to.now l.to (l.w * 8) ((l.w + 1) * 8) (omega arith) (omega arith) c.requires l.invariant.2,
       omega arith,
     )

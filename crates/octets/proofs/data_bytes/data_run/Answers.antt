@@ -5,16 +5,13 @@ use Rattle.octets.proofs.data_bytes.data_run.Goals as goal
 
 pub returns-then-bytes-i-ge128 : goal.returns-then-bytes-i-ge128
 returns-then-bytes-i-ge128 c =
-    let a = c.args in
     let loop = c.loop-i in
-    run_ends a.bytes.now loop.i loop.invariant c.if-bytes-i-ge128.true
+    run_ends c.args.bytes.now loop.i loop.invariant c.if-bytes-i-ge128.true
 
 pub loop-i-preserved : goal.loop-i-preserved
 loop-i-preserved c =
-    let a = c.args in
     let loop = c.loop-i in
-    let loop_test = c.loop-i-test in
-    run_more a.bytes.now loop.i loop.invariant loop_test.true c.if-bytes-i-ge128.false
+    run_more c.args.bytes.now loop.i loop.invariant c.loop-i-test.true c.if-bytes-i-ge128.false
 
 pub returns : goal.returns
 returns c = omega (arith, run_within c.args.bytes.now, c.loop-i.invariant, c.loop-i-test.false)

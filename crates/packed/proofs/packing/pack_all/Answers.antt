@@ -13,13 +13,10 @@ use Rattle.packed.proofs.packing.pack_all.Goals as goal
 pub returns-then-whole-groups : goal.returns-then-whole-groups
 returns-then-whole-groups c =
     let asked = c.requires in
-    let if1 = c.if-whole-groups in
-    let pack_last = c.pack_last in
     let a = c.args in
     let whole = length a.raw.now / 7 in
-    let p = c.pack_groups in
-    let all : 8 * whole + 8 ≡ 8 * a.groups = omega (arith, asked, if1.true) in
-    pack_last.ensures
-    ∙ ap (λ (l : List ℕ). window l (8 * whole) (tab (group_byte a.raw.now (7 * whole)) 8)) p.ensures
-    ∙ packed_more a.raw.now a.out.now whole (omega (arith, asked, if1.true))
+    let all : 8 * whole + 8 ≡ 8 * a.groups = omega (arith, asked, c.if-whole-groups.true) in
+    c.pack_last.ensures
+    ∙ ap (λ (l : List ℕ). window l (8 * whole) (tab (group_byte a.raw.now (7 * whole)) 8)) c.pack_groups.ensures
+    ∙ packed_more a.raw.now a.out.now whole (omega (arith, asked, c.if-whole-groups.true))
     ∙ ap (λ (n : ℕ). window a.out.now 0 (tab (packed_byte a.raw.now) n)) all

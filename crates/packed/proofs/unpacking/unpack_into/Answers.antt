@@ -21,7 +21,8 @@ returns-then-available-needed c = let a = c.args in
     let e : gives n ≡ unpacked_length_of size =
     ap counted (sym c.in-Ok.is) ∙ c.unpacked_len.ensures in
     counted_first _ _ n _ _ _ e
-    (no_room (unpacked a.run.now) a.out.now n (length_tab (unpacked_byte a.run.now) (unpacked_length size) ∙ sym (unpacked_given size n e).0) c.if-available-needed.true)
+    (no_room (unpacked a.run.now) a.out.now n (length_tab (unpacked_byte a.run.now) (unpacked_length size) ∙ sym
+    (unpacked_given size n e).0) c.if-available-needed.true)
 
 pub returns-then-whole-needed : goal.returns-then-whole-needed
 returns-then-whole-needed c = let a = c.args in
@@ -35,10 +36,9 @@ returns-then-whole-needed c = let a = c.args in
     let room = c.if-available-needed.false in
     let sum : 7 * g + (n - 7 * g) ≡ n = omega (arith, l, c.if-whole-needed.true) in
     let p = c.unpack_group in
-    let w = c.unpack_groups in
     counted_first _ _ n _ a.out.now _ e
     (filled_in f (unpacked_length size) n a.out.now p.new.out l room
-    (p.ensures ∙ ap (λ (o : List ℕ). window o (7 * g) (tab (raw_byte a.run.now (8 * g)) (n - 7 * g))) w.ensures
+    (p.ensures ∙ ap (λ (o : List ℕ). window o (7 * g) (tab (raw_byte a.run.now (8 * g)) (n - 7 * g))) c.unpack_groups.ensures
     ∙ unpacked_more a.run.now a.out.now g (n - 7 * g) (omega (arith, l)) (omega (arith, l, sum, room))
     ∙ ap (λ (m : ℕ). window a.out.now 0 (tab f m)) sum))
 

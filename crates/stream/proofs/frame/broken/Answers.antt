@@ -11,35 +11,23 @@ bounds-store-0 c = omega (arith, room_for_three)
 
 pub returns-then-byte-eq240 : goal.returns-then-byte-eq240
 returns-then-byte-eq240 c =
-    let if1 = c.if-byte-eq240 in
-    let put_open = c.put_open in
     let a = c.args in
-    let p = c.requires in
-    start_answers a.state.now p.0 a.at a.store.now a.byte a.used _ _ _ if1.true c.interrupted.ensures put_open.ensures refl
+    start_answers a.state.now c.requires.0 a.at a.store.now a.byte a.used _ _ _ c.if-byte-eq240.true c.interrupted.ensures c.put_open.ensures refl
 
 pub returns-then-byte-lt244 : goal.returns-then-byte-lt244
 returns-then-byte-lt244 c =
-    let if2 = c.if-byte-lt244 in
-    let if1 = c.if-byte-eq240 in
-    let put_middle_call = c.put_middle in
-    let held = c.held in
-    let put_closed = c.put_closed in
     let a = c.args in
     let p = c.requires in
-    held_answers a.state.now p.0 a.at a.store.now a.byte a.used _ _ _ p.2 if2.true if1.false c.interrupted-then-byte-lt244.ensures
-    (put_middle_call.ensures ∙ ap₂ put_middle held.ensures put_closed.ensures) refl
+    held_answers a.state.now p.0 a.at a.store.now a.byte a.used _ _ _ p.2 c.if-byte-lt244.true c.if-byte-eq240.false c.interrupted-then-byte-lt244.ensures
+    (c.put_middle.ensures ∙ ap₂ put_middle c.held.ensures c.put_closed.ensures) refl
 
 pub returns-then-byte-eq246 : goal.returns-then-byte-eq246
 returns-then-byte-eq246 c =
-    let put_closed = c.put_closed in
     let a = c.args in
-    let p = c.requires in
-    tune_answers a.state.now p.0 a.at a.store.now a.byte a.used _ _ _ c.if-byte-eq246.true c.interrupted_by_tune.ensures put_closed.ensures refl
+    tune_answers a.state.now c.requires.0 a.at a.store.now a.byte a.used _ _ _ c.if-byte-eq246.true c.interrupted_by_tune.ensures c.put_closed.ensures refl
 
 pub returns : goal.returns
 returns c =
-    let if2 = c.if-byte-lt244 in
-    let put_closed = c.put_closed in
     let a = c.args in
-    let p = c.requires in
-    undefined_answers a.state.now p.0 a.at a.store.now a.byte a.used _ _ _ if2.false (omega arith) c.interrupted-2.ensures put_closed.ensures refl
+    undefined_answers a.state.now c.requires.0 a.at a.store.now a.byte a.used _ _ _ c.if-byte-lt244.false
+    (omega arith) c.interrupted-2.ensures c.put_closed.ensures refl

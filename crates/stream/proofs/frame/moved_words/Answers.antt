@@ -11,17 +11,13 @@ use Rattle.stream.proofs.frame.moved_words.Goals as goal
 
 pub loop-left-preserved : goal.loop-left-preserved
 loop-left-preserved c =
-    let shared_slice_known = c.type_inv.bytes in
-    let put_word = c.put_word in
-    let loop_test = c.loop-left-test in
-    let if1 = c.if-word-ne0 in
     let a = c.args in
     let l = c.loop-left in
     let p = c.requires in
-    let small : (i : ℕ) → get_or a.bytes.now i 0 < 256 = λ i. omega (arith, shared_slice_known i) in
+    let small : (i : ℕ) → get_or a.bytes.now i 0 < 256 = λ i. omega (arith, c.type_inv.bytes i) in
     let w = c.word_at-word in
-    subst (λ (x : List ℕ). MovedTo a.start a.from a.most (l.at + 8) (l.used + 8) (l.left - 8) a.store.now x a.bytes.now) (sym put_word.ensures)
+    subst (λ (x : List ℕ). MovedTo a.start a.from a.most (l.at + 8) (l.used + 8) (l.left - 8) a.store.now x a.bytes.now) (sym c.put_word.ensures)
     (moving_word a.start a.from a.most a.store.now a.bytes.now p.0 p.1 l.at l.used l.left l.store l.invariant
-    loop_test.true w.result small w.ensures
+    c.loop-left-test.true w.result small w.ensures
     (word_plain a.start a.from a.most a.store.now a.bytes.now p.0 p.1 l.at l.used l.left l.store l.invariant
-    w.result small w.ensures (no_tops a.bytes.now l.used w.result small w.ensures if1.false)))
+    w.result small w.ensures (no_tops a.bytes.now l.used w.result small w.ensures c.if-word-ne0.false)))

@@ -22,16 +22,14 @@ put_open-requires c = let a = c.args in
 
 pub returns-then-used-bytes : goal.returns-then-used-bytes
 returns-then-used-bytes c =
-    let if1 = c.if-used-bytes in
-    let put_open = c.put_open in
     let a = c.args in
     let l = c.loop-used in
     let m = c.moved-run in
     let w = further a.from (walk (open_state a.start a.state.now) a.store.now (drop a.from a.bytes.now)) in
     let b = run_moved w a.state.now a.store.now a.bytes.now l.state l.store l.at l.used l.invariant m.result.at
     m.result.used m.new.store m.ensures in
-    frame_ends w a.state.now a.store.now a.bytes.now l.state m.new.store m.result.at m.result.used b if1.true _ _ _
-    c.quiet.ensures (put_open.ensures ∙ open_stored l.state b.free m.result.at b.fits) refl
+    frame_ends w a.state.now a.store.now a.bytes.now l.state m.new.store m.result.at m.result.used b c.if-used-bytes.true _ _ _
+    c.quiet.ensures (c.put_open.ensures ∙ open_stored l.state b.free m.result.at b.fits) refl
 
 pub bounds-bytes-used : goal.bounds-bytes-used
 bounds-bytes-used c = let a = c.args in
@@ -44,35 +42,31 @@ bounds-bytes-used c = let a = c.args in
 
 pub ends-requires : goal.ends-requires
 ends-requires c =
-    let if1 = c.if-used-bytes in
-    let if2 = c.if-byte-lt248 in
     let a = c.args in
     let l = c.loop-used in
     let m = c.moved-run in
     let w = further a.from (walk (open_state a.start a.state.now) a.store.now (drop a.from a.bytes.now)) in
     let b = run_moved w a.state.now a.store.now a.bytes.now l.state l.store l.at l.used l.invariant m.result.at
     m.result.used m.new.store m.ensures in
-    let more : m.result.used < length a.bytes.now = omega (arith, if1.false, b.on.within) in (
+    let more : m.result.used < length a.bytes.now = omega (arith, c.if-used-bytes.false, b.on.within) in (
       b.free,
       b.room,
       b.fits,
-      if2.true,
+      c.if-byte-lt248.true,
       no_room_there w a.state.now a.store.now a.bytes.now l.state l.store l.at l.used
           l.invariant m.result.at m.result.used m.new.store m.ensures more,
     )
 
 pub returns-then-byte-lt248 : goal.returns-then-byte-lt248
 returns-then-byte-lt248 c =
-    let if1 = c.if-used-bytes in
-    let ends = c.ends in
     let a = c.args in
     let l = c.loop-used in
     let m = c.moved-run in
     let w = further a.from (walk (open_state a.start a.state.now) a.store.now (drop a.from a.bytes.now)) in
     let b = run_moved w a.state.now a.store.now a.bytes.now l.state l.store l.at l.used l.invariant m.result.at
     m.result.used m.new.store m.ensures in
-    let more : m.result.used < length a.bytes.now = omega (arith, if1.false, b.on.within) in
-    frame_answers w a.state.now a.store.now a.bytes.now l.state m.new.store m.result.at m.result.used b more _ _ _ ends.ensures
+    let more : m.result.used < length a.bytes.now = omega (arith, c.if-used-bytes.false, b.on.within) in
+    frame_answers w a.state.now a.store.now a.bytes.now l.state m.new.store m.result.at m.result.used b more _ _ _ c.ends.ensures
 
 pub put_open-requires-then-is_realtime : goal.put_open-requires-then-is_realtime
 put_open-requires-then-is_realtime c = let a = c.args in
@@ -85,34 +79,26 @@ put_open-requires-then-is_realtime c = let a = c.args in
 
 pub returns-then-is_realtime : goal.returns-then-is_realtime
 returns-then-is_realtime c =
-    let if1 = c.if-used-bytes in
-    let shared_slice_known2 = c.type_inv.bytes in
-    let is_realtime = c.is_realtime in
-    let if3 = c.if-is_realtime in
-    let put_open2 = c.put_open-then-is_realtime in
     let a = c.args in
     let l = c.loop-used in
     let m = c.moved-run in
     let w = further a.from (walk (open_state a.start a.state.now) a.store.now (drop a.from a.bytes.now)) in
     let b = run_moved w a.state.now a.store.now a.bytes.now l.state l.store l.at l.used l.invariant m.result.at
     m.result.used m.new.store m.ensures in
-    let more : m.result.used < length a.bytes.now = omega (arith, if1.false, b.on.within) in
+    let more : m.result.used < length a.bytes.now = omega (arith, c.if-used-bytes.false, b.on.within) in
     frame_answers w a.state.now a.store.now a.bytes.now l.state m.new.store m.result.at m.result.used b more _ _ _
     (realtime_answers (open_state m.result.at l.state) m.new.store _ (m.result.used + 1) _ _ _
-    (omega (arith, shared_slice_known2 m.result.used)) (sym is_realtime.ensures ∙ if3.true) c.realtime.ensures
-    (put_open2.ensures ∙ open_stored l.state b.free m.result.at b.fits) refl)
+    (omega (arith, c.type_inv.bytes m.result.used)) (sym c.is_realtime.ensures ∙ c.if-is_realtime.true) c.realtime.ensures
+    (c.put_open-then-is_realtime.ensures ∙ open_stored l.state b.free m.result.at b.fits) refl)
 
 pub loop-used-preserved : goal.loop-used-preserved
 loop-used-preserved c =
-    let if1 = c.if-used-bytes in
-    let shared_slice_known2 = c.type_inv.bytes in
-    let if2 = c.if-byte-lt248 in
     let a = c.args in
     let l = c.loop-used in
     let m = c.moved-run in
     let w = further a.from (walk (open_state a.start a.state.now) a.store.now (drop a.from a.bytes.now)) in
     let b = run_moved w a.state.now a.store.now a.bytes.now l.state l.store l.at l.used l.invariant m.result.at
     m.result.used m.new.store m.ensures in
-    let more : m.result.used < length a.bytes.now = omega (arith, if1.false, b.on.within) in
+    let more : m.result.used < length a.bytes.now = omega (arith, c.if-used-bytes.false, b.on.within) in
     frame_goes_on w a.state.now a.store.now a.bytes.now l.state m.new.store m.result.at m.result.used b more
-    (omega (arith, shared_slice_known2 m.result.used)) if2.false (sym c.is_realtime.ensures ∙ c.if-is_realtime.false)
+    (omega (arith, c.type_inv.bytes m.result.used)) c.if-byte-lt248.false (sym c.is_realtime.ensures ∙ c.if-is_realtime.false)

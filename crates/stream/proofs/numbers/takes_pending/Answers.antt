@@ -7,24 +7,16 @@ returns-then-word-lt384 c = let a = c.args in pending_none a.word a.first c.requ
 
 pub returns-then-word-lt448 : goal.returns-then-word-lt448
 returns-then-word-lt448 c =
-    let asked = c.requires in
-    let if1 = c.if-word-lt384 in
-    let a = c.args in pending_low a.word a.first asked c.if-first-gt127.false if1.false c.if-word-lt448.true
+    let a = c.args in pending_low a.word a.first c.requires c.if-first-gt127.false c.if-word-lt384.false c.if-word-lt448.true
 
 pub returns-then-word-lt480 : goal.returns-then-word-lt480
 returns-then-word-lt480 c =
-    let asked = c.requires in
-    let if2 = c.if-first-gt127 in
-    let a = c.args in pending_middle a.word a.first asked if2.false c.if-word-lt448.false c.if-word-lt480.true
+    let a = c.args in pending_middle a.word a.first c.requires c.if-first-gt127.false c.if-word-lt448.false c.if-word-lt480.true
 
 pub returns-then-word-lt496 : goal.returns-then-word-lt496
 returns-then-word-lt496 c =
-    let asked = c.requires in
-    let if2 = c.if-first-gt127 in
-    let a = c.args in pending_bend a.word a.first asked if2.false c.if-word-lt480.false c.if-word-lt496.true
+    let a = c.args in pending_bend a.word a.first c.requires c.if-first-gt127.false c.if-word-lt480.false c.if-word-lt496.true
 
 pub returns : goal.returns
 returns c =
-    let asked = c.requires in
-    let if2 = c.if-first-gt127 in
-    let a = c.args in pending_position a.word a.first asked if2.false c.if-word-lt496.false
+    let a = c.args in pending_position a.word a.first c.requires c.if-first-gt127.false c.if-word-lt496.false

@@ -7,24 +7,25 @@ use Rattle.stream.proofs.numbers.takes_waiting.Goals as goal
 
 pub returns-then-word-lt128 : goal.returns-then-word-lt128
 returns-then-word-lt128 c = let a = c.args in
-    by_word a.middle a.first (a.middle / 65_536) c.if-middle-ne256.false refl _ (below_status (a.middle / 65_536) a.first (omega (arith, c.if-word-lt128.true)) c.if-word-lt128.true)
+    by_word a.middle a.first (a.middle / 65_536) c.if-middle-ne256.false refl _ (below_status (a.middle / 65_536) a.first (omega (
+      arith,
+      c.if-word-lt128.true,
+    )) c.if-word-lt128.true)
 
 pub returns-then-word-lt240 : goal.returns-then-word-lt240
 returns-then-word-lt240 c =
-    let if1 = c.if-middle-ne256 in
     let a = c.args in
-    by_word a.middle a.first (a.middle / 65_536) if1.false refl _
+    by_word a.middle a.first (a.middle / 65_536) c.if-middle-ne256.false refl _
     (channel_waits (a.middle / 65_536) a.first (omega (arith, c.if-word-lt240.true)) c.if-word-lt128.false c.if-word-lt240.true)
 
 pub returns-then-word-gt243 : goal.returns-then-word-gt243
 returns-then-word-gt243 c =
-    let if1 = c.if-middle-ne256 in
     let a = c.args in
-    by_word a.middle a.first (a.middle / 65_536) if1.false refl _ (above_common (a.middle / 65_536) a.first c.if-word-lt256.true c.if-word-gt243.true)
+    by_word a.middle a.first (a.middle / 65_536) c.if-middle-ne256.false refl _ (above_common
+    (a.middle / 65_536) a.first c.if-word-lt256.true c.if-word-gt243.true)
 
 pub returns-then-word-lt256 : goal.returns-then-word-lt256
 returns-then-word-lt256 c =
-    let if1 = c.if-middle-ne256 in
-    let if3 = c.if-word-lt240 in
     let a = c.args in
-    by_word a.middle a.first (a.middle / 65_536) if1.false refl _ (common_waits (a.middle / 65_536) a.first c.if-word-lt256.true if3.false c.if-word-gt243.false)
+    by_word a.middle a.first (a.middle / 65_536) c.if-middle-ne256.false refl _ (common_waits
+    (a.middle / 65_536) a.first c.if-word-lt256.true c.if-word-lt240.false c.if-word-gt243.false)

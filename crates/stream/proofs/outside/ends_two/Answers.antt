@@ -6,35 +6,22 @@ use Rattle.stream.proofs.outside.ends_two.Goals as goal
 
 pub returns-then-status-lt192 : goal.returns-then-status-lt192
 returns-then-status-lt192 c =
-    let put_waiting_call = c.put_waiting in
-    let put_second = c.put_second in
-    let status_in = c.status_in-status in
-    let if1 = c.if-status-lt192 in
     let a = c.args in
     let p = c.requires in
-    let later = put_waiting_call.ensures ∙ ap (put_waiting a.held a.first) put_second.ensures in
-    plain_of_two a.state.now p.0 a.held _ a.used status_in.ensures _ _ a.first a.second p.1 p.2 p.3 if1.true c.channel.ensures later
+    let later = c.put_waiting.ensures ∙ ap (put_waiting a.held a.first) c.put_second.ensures in
+    plain_of_two a.state.now p.0 a.held _ a.used c.status_in-status.ensures _ _ a.first a.second p.1 p.2 p.3 c.if-status-lt192.true c.channel.ensures later
 
 pub returns-then-status-lt240 : goal.returns-then-status-lt240
 returns-then-status-lt240 c =
-    let put_waiting2 = c.put_waiting-then-status-lt240 in
-    let put_second = c.put_second in
-    let status_in = c.status_in-status in
-    let if1 = c.if-status-lt192 in
-    let if2 = c.if-status-lt240 in
     let a = c.args in
     let p = c.requires in
-    let later = put_waiting2.ensures ∙ ap (put_waiting a.held a.first) put_second.ensures in
-    bend_of_two a.state.now p.0 a.held _ a.used status_in.ensures _ _ a.first a.second p.1 p.2 p.3 if1.false
-    if2.true c.channel-then-status-lt240.ensures later
+    let later = c.put_waiting-then-status-lt240.ensures ∙ ap (put_waiting a.held a.first) c.put_second.ensures in
+    bend_of_two a.state.now p.0 a.held _ a.used c.status_in-status.ensures _ _ a.first a.second p.1 p.2 p.3 c.if-status-lt192.false
+    c.if-status-lt240.true c.channel-then-status-lt240.ensures later
 
 pub returns : goal.returns
 returns c =
-    let put_waiting3 = c.put_waiting-2 in
-    let put_second = c.put_second in
-    let status_in = c.status_in-status in
-    let if2 = c.if-status-lt240 in
     let a = c.args in
     let p = c.requires in
-    let later = put_waiting3.ensures ∙ ap (put_waiting 0 a.first) put_second.ensures in
-    common_of_two a.state.now p.0 a.held _ a.used status_in.ensures _ _ a.first a.second p.1 p.2 p.3 if2.false c.common.ensures later
+    let later = c.put_waiting-2.ensures ∙ ap (put_waiting 0 a.first) c.put_second.ensures in
+    common_of_two a.state.now p.0 a.held _ a.used c.status_in-status.ensures _ _ a.first a.second p.1 p.2 p.3 c.if-status-lt240.false c.common.ensures later

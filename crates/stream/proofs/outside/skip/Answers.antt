@@ -14,12 +14,9 @@ overflow_sub-bytes c =
 pub loop-i-preserved : goal.loop-i-preserved
 loop-i-preserved c =
     let loop = c.loop-i in
-    let shared_slice_known = c.type_inv.bytes in
-    let asked = c.requires in
-    let loop_test = c.loop-i-test in
     let a = c.args in
     let i = loop.i in
     let w = c.word_at in
-    let small : (k : ℕ) → get_or a.bytes.now k 0 < 256 = λ k. omega (arith, shared_slice_known k) in
+    let small : (k : ℕ) → get_or a.bytes.now k 0 < 256 = λ k. omega (arith, c.type_inv.bytes k) in
     let plain = no_tops a.bytes.now i w.result small w.ensures c.if-word_at-ne0.false in
-    skip_word a.at i a.bytes.now asked loop.invariant (omega (arith, loop_test.true)) plain
+    skip_word a.at i a.bytes.now c.requires loop.invariant (omega (arith, c.loop-i-test.true)) plain

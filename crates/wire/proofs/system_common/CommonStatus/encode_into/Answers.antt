@@ -11,13 +11,11 @@ use Rattle.wire.proofs.system_common.CommonStatus.encode_into.Goals as goal
 
 pub returns : goal.returns
 returns c =
-    let carries = c.carries in
-    let if1 = c.if-not-carries in
     let a = c.args in
     let s = c.to_status-status in
     let l = c.encoded_len-needed in
     let p = c.put in
-    let fits : common_in_range (common a.self a.value) ≡ true = sym carries.ensures ∙ if1.false in
+    let fits : common_in_range (common a.self a.value) ≡ true = sym c.carries.ensures ∙ c.if-not-carries.false in
     let same : take l.result (s.result ∷ a.value % 128 ∷ a.value / 128 % 128 ∷ []) ≡ common_bytes (common a.self a.value) =
     rw (l.ensures, s.ensures) (common_bytes_lem a.self a.value fits) in
     went_on _ 21 (a.value ∷ []) _ p.result a.out.now p.new.out fits
