@@ -46,7 +46,7 @@ frame_begins start from state store bytes free room fits within =
     record { free = free; same = refl; long = refl; room = room; fits = fits; on = record { within = within; rest = refl } }
 
 -- the place right behind a run of n data bytes that was moved
-module _ (w : Walked) (state₀ store₀ bytes state store : List ℕ) (at used : ℕ) (i : InFrame w state₀ store₀ bytes state store at used)
+module _ {w : Walked} {state₀ store₀ bytes state store : List ℕ} {at used : ℕ} (i : InFrame w state₀ store₀ bytes state store at used)
     (n : ℕ) (n-is : n ≡ min (limit - at) (data_run (drop used bytes))) (kept : List ℕ) (kept-is : kept ≡ window store at (take n (drop used bytes))) where
   run_fits : at + n ≤ limit
   run_fits = omega (arith, n-is, i.fits)
@@ -76,22 +76,22 @@ module _ (w : Walked) (state₀ store₀ bytes state store : List ℕ) (at used 
       omega (arith, n-is, h, i.fits)
 
 -- the run, as the code moves it
-module _ (w : Walked) (state₀ store₀ bytes state store : List ℕ) (at used : ℕ) (i : InFrame w state₀ store₀ bytes state store at used)
-    (at' used' : ℕ) (kept : List ℕ) (r : RunMoved at used at' used' store kept bytes) where
+module _ {w : Walked} {state₀ store₀ bytes state store : List ℕ} {at used : ℕ} (i : InFrame w state₀ store₀ bytes state store at used)
+    {at' used' : ℕ} {kept : List ℕ} (r : RunMoved at used at' used' store kept bytes) where
   pub run_moved : InFrame w state₀ store₀ bytes state kept at' used'
   run_moved =
       subst (λ (x : ℕ). InFrame w state₀ store₀ bytes state kept x used') (sym r.place)
       (subst (λ (x : ℕ). InFrame w state₀ store₀ bytes state kept (at + r.count) x) (sym r.next)
-      (behind_run w state₀ store₀ bytes state store at used i r.count r.all kept r.moved))
+      (behind_run i r.count r.all kept r.moved))
 
   pub no_room_there : used' < length bytes → get_or bytes used' 0 < 0x80 → limit ≤ at'
   no_room_there more low =
       subst (λ (x : ℕ). limit ≤ x) (sym r.place)
-      (full_there w state₀ store₀ bytes state store at used i r.count r.all kept r.moved (omega (arith, more, r.next))
+      (full_there i r.count r.all kept r.moved (omega (arith, more, r.next))
       (subst (λ (x : ℕ). get_or bytes x 0 < 0x80) r.next low))
 
 -- in a frame: the end of the bytes or a byte that reports ends the call, and F9 and FD lead on
-module _ (w : Walked) (state₀ store₀ bytes state store : List ℕ) (at used : ℕ) (i : InFrame w state₀ store₀ bytes state store at used) where
+module _ {w : Walked} {state₀ store₀ bytes state store : List ℕ} {at used : ℕ} (i : InFrame w state₀ store₀ bytes state store at used) where
   same_open : open_state at state ≡ open_state at state₀
   same_open = ap (open_state at) i.same
 

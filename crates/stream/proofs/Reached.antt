@@ -153,7 +153,7 @@ opened_there l m a long = sym (ap (λ (x : List ℕ). open_state 1 (put_waiting 
 waiting_length : (w a : ℕ) (l : List ℕ) → length (put_waiting w a l) ≡ length l
 waiting_length w a l = simp length-set refl
 
-module _ (w : Walked) (state₀ store₀ bytes state store : List ℕ) (at m a i : ℕ) (r : Reached w state₀ store₀ bytes state store at m a i) where
+module _ {w : Walked} {state₀ store₀ bytes state store : List ℕ} {at m a i : ℕ} (r : Reached w state₀ store₀ bytes state store at m a i) where
   -- in a frame, the rest by another function
   pub open_ends : (at ≡ 0 → ⊥) → (x : FedAnswer) (later left : List ℕ) → Numbered (further i (walk (open_state at state) store (drop i bytes))) x later
       left → Numbered w x later left

@@ -2,8 +2,7 @@
 use mathlib.Core.Path.{refl, sym, ◌∙◌}
 use Prim.Native.Nat.{◌+◌, ◌<◌}
 use native.Mathlib.Omega.{arith}
-use lib.ListN.{length, drop}
-use Rattle.decoder.specs.Call.{walk, further}
+use lib.ListN.{length}
 use Rattle.decoder.proofs.Limit.{limit_is}
 use Rattle.stream.specs.quick.Bytes.{open_state}
 use Rattle.stream.proofs.Stores.{open_stored}
@@ -12,32 +11,25 @@ use Rattle.stream.proofs.InFrame.{run_moved, no_room_there, frame_ends, frame_an
 use Rattle.stream.proofs.frame.read.Goals as goal
 
 pub put_open-requires : goal.put_open-requires
-put_open-requires c = let a = c.args in
+put_open-requires c =
     let l = c.loop-used in
     let m = c.moved-run in
-    let w = further a.from (walk (open_state a.start a.state.now) a.store.now (drop a.from a.bytes.now)) in
-    let b = run_moved w a.state.now a.store.now a.bytes.now l.state l.store l.at l.used l.invariant m.result.at
-    m.result.used m.new.store m.ensures in
+    let b = run_moved l.invariant m.ensures in
     (b.free.0, omega (arith, b.fits, limit_is))
 
 pub returns-then-used-bytes : goal.returns-then-used-bytes
 returns-then-used-bytes c =
-    let a = c.args in
     let l = c.loop-used in
     let m = c.moved-run in
-    let w = further a.from (walk (open_state a.start a.state.now) a.store.now (drop a.from a.bytes.now)) in
-    let b = run_moved w a.state.now a.store.now a.bytes.now l.state l.store l.at l.used l.invariant m.result.at
-    m.result.used m.new.store m.ensures in
-    frame_ends w a.state.now a.store.now a.bytes.now l.state m.new.store m.result.at m.result.used b c.if-used-bytes.true _ _ _
+    let b = run_moved l.invariant m.ensures in
+    frame_ends b c.if-used-bytes.true _ _ _
     c.quiet.ensures (c.put_open.ensures ∙ open_stored l.state b.free m.result.at b.fits) refl
 
 pub bounds-bytes-used : goal.bounds-bytes-used
-bounds-bytes-used c = let a = c.args in
+bounds-bytes-used c =
     let l = c.loop-used in
     let m = c.moved-run in
-    let w = further a.from (walk (open_state a.start a.state.now) a.store.now (drop a.from a.bytes.now)) in
-    let b = run_moved w a.state.now a.store.now a.bytes.now l.state l.store l.at l.used l.invariant m.result.at
-    m.result.used m.new.store m.ensures in
+    let b = run_moved l.invariant m.ensures in
     omega (arith, c.if-used-bytes.false, b.on.within)
 
 pub ends-requires : goal.ends-requires
@@ -45,16 +37,13 @@ ends-requires c =
     let a = c.args in
     let l = c.loop-used in
     let m = c.moved-run in
-    let w = further a.from (walk (open_state a.start a.state.now) a.store.now (drop a.from a.bytes.now)) in
-    let b = run_moved w a.state.now a.store.now a.bytes.now l.state l.store l.at l.used l.invariant m.result.at
-    m.result.used m.new.store m.ensures in
+    let b = run_moved l.invariant m.ensures in
     let more : m.result.used < length a.bytes.now = omega (arith, c.if-used-bytes.false, b.on.within) in (
       b.free,
       b.room,
       b.fits,
       c.if-byte-lt248.true,
-      no_room_there w a.state.now a.store.now a.bytes.now l.state l.store l.at l.used
-          l.invariant m.result.at m.result.used m.new.store m.ensures more,
+      no_room_there l.invariant m.ensures more,
     )
 
 pub returns-then-byte-lt248 : goal.returns-then-byte-lt248
@@ -62,19 +51,15 @@ returns-then-byte-lt248 c =
     let a = c.args in
     let l = c.loop-used in
     let m = c.moved-run in
-    let w = further a.from (walk (open_state a.start a.state.now) a.store.now (drop a.from a.bytes.now)) in
-    let b = run_moved w a.state.now a.store.now a.bytes.now l.state l.store l.at l.used l.invariant m.result.at
-    m.result.used m.new.store m.ensures in
+    let b = run_moved l.invariant m.ensures in
     let more : m.result.used < length a.bytes.now = omega (arith, c.if-used-bytes.false, b.on.within) in
-    frame_answers w a.state.now a.store.now a.bytes.now l.state m.new.store m.result.at m.result.used b more _ _ _ c.ends.ensures
+    frame_answers b more _ _ _ c.ends.ensures
 
 pub put_open-requires-then-is_realtime : goal.put_open-requires-then-is_realtime
-put_open-requires-then-is_realtime c = let a = c.args in
+put_open-requires-then-is_realtime c =
     let l = c.loop-used in
     let m = c.moved-run in
-    let w = further a.from (walk (open_state a.start a.state.now) a.store.now (drop a.from a.bytes.now)) in
-    let b = run_moved w a.state.now a.store.now a.bytes.now l.state l.store l.at l.used l.invariant m.result.at
-    m.result.used m.new.store m.ensures in
+    let b = run_moved l.invariant m.ensures in
     (b.free.0, omega (arith, b.fits, limit_is))
 
 pub returns-then-is_realtime : goal.returns-then-is_realtime
@@ -82,11 +67,9 @@ returns-then-is_realtime c =
     let a = c.args in
     let l = c.loop-used in
     let m = c.moved-run in
-    let w = further a.from (walk (open_state a.start a.state.now) a.store.now (drop a.from a.bytes.now)) in
-    let b = run_moved w a.state.now a.store.now a.bytes.now l.state l.store l.at l.used l.invariant m.result.at
-    m.result.used m.new.store m.ensures in
+    let b = run_moved l.invariant m.ensures in
     let more : m.result.used < length a.bytes.now = omega (arith, c.if-used-bytes.false, b.on.within) in
-    frame_answers w a.state.now a.store.now a.bytes.now l.state m.new.store m.result.at m.result.used b more _ _ _
+    frame_answers b more _ _ _
     (realtime_answers (open_state m.result.at l.state) m.new.store _ (m.result.used + 1) _ _ _
     (omega (arith, c.type_inv.bytes m.result.used)) (sym c.is_realtime.ensures ∙ c.if-is_realtime.true) c.realtime.ensures
     (c.put_open-then-is_realtime.ensures ∙ open_stored l.state b.free m.result.at b.fits) refl)
@@ -96,9 +79,7 @@ loop-used-preserved c =
     let a = c.args in
     let l = c.loop-used in
     let m = c.moved-run in
-    let w = further a.from (walk (open_state a.start a.state.now) a.store.now (drop a.from a.bytes.now)) in
-    let b = run_moved w a.state.now a.store.now a.bytes.now l.state l.store l.at l.used l.invariant m.result.at
-    m.result.used m.new.store m.ensures in
+    let b = run_moved l.invariant m.ensures in
     let more : m.result.used < length a.bytes.now = omega (arith, c.if-used-bytes.false, b.on.within) in
-    frame_goes_on w a.state.now a.store.now a.bytes.now l.state m.new.store m.result.at m.result.used b more
+    frame_goes_on b more
     (omega (arith, c.type_inv.bytes m.result.used)) c.if-byte-lt248.false (sym c.is_realtime.ensures ∙ c.if-is_realtime.false)
