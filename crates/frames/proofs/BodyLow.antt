@@ -45,17 +45,28 @@ row_body_low device code prefix run h g low =
     ap (λ (l : List ℕ). 0xF0 ∷ 0x00 ∷ 0x20 ∷ 0x32 ∷ 0x20 ∷ device ∷ code ∷ l) (sym (append_assoc prefix run (0xF7 ∷ []))) in
     ap (λ (l : List ℕ). first_high (body l)) same ∙ ap first_high (body_is xs) ∙ rw (lt-ltb device 0x80 h, lt-ltb code 0x80 g) low
 
+-- what the writer writes is the row of a device in range, tested for bytes of 80 and above: the room plays no part in it
+pub written_row : (x : Frame) (run : List ℕ) (room : ℕ) (bytes : List ℕ) → frame_write x run room ≡ gives bytes
+    → (device_in_range x.device ≡ true)
+    × (seven_bit_write x.device (command_of_head x.head) (prefix_of (command_of_head x.head) (fields_of x.head)) (own_run (command_of_head x.head) run)
+    ≡ gives bytes)
+written_row x run room bytes e =
+    let c = command_of_head x.head in
+    let f = fields_of x.head in
+    let rest = fields_write x.device c f run room in
+    let one = given_first (checked_fields c f) _ bytes (passed_on (device_in_range x.device) 5 (device_byte x.device ∷ []) rest bytes e) in
+    let two = given_first (length_for c (length (prefix_of c f)) (length run)) (λ n. room_write x.device c (prefix_of c f) (own_run c run) room n) bytes one.2 in (
+      passed (device_in_range x.device) 5 (device_byte x.device ∷ []) rest bytes e,
+      passed_on (leb two.0 room) 14 (two.0 ∷ room ∷ []) (seven_bit_write x.device c (prefix_of c f) (own_run c run)) bytes two.2,
+    )
+
 pub written_body_low : (x : Frame) (run : List ℕ) (room : ℕ) (bytes : List ℕ) → frame_write x run room ≡ gives bytes → first_high (body bytes) ≡ m.None
 written_body_low x run room bytes e =
     let c = command_of_head x.head in
     let f = fields_of x.head in
-    let rest = fields_write x.device c f run room in
-    let ranged = passed (device_in_range x.device) 5 (device_byte x.device ∷ []) rest bytes e in
-    let one = given_first (checked_fields c f) _ bytes (passed_on (device_in_range x.device) 5 (device_byte x.device ∷ []) rest bytes e) in
-    let two = given_first (length_for c (length (prefix_of c f)) (length run)) (λ n. room_write x.device c (prefix_of c f) (own_run c run) room n) bytes one.2 in
-    let three = passed_on (leb two.0 room) 14 (two.0 ∷ room ∷ []) (seven_bit_write x.device c (prefix_of c f) (own_run c run)) bytes two.2 in
-    let four = no_high (first_high (prefix_of c f ++ own_run c run)) (gives (row (device_byte x.device) (code_of c) (prefix_of c f) (own_run c run))) bytes three in
+    let w = written_row x run room bytes e in
+    let four = no_high (first_high (prefix_of c f ++ own_run c run)) (gives (row (device_byte x.device) (code_of c) (prefix_of c f) (own_run c run))) bytes w.1 in
     let last : gives (row (device_byte x.device) (code_of c) (prefix_of c f) (own_run c run)) ≡ gives bytes = four.1 in
     let same : row (device_byte x.device) (code_of c) (prefix_of c f) (own_run c run) ≡ bytes = cc in
     subst (λ (l : List ℕ). first_high (body l) ≡ m.None) same
-    (row_body_low (device_byte x.device) (code_of c) (prefix_of c f) (own_run c run) (device_low x.device ranged) (code_low c) four.0)
+    (row_body_low (device_byte x.device) (code_of c) (prefix_of c f) (own_run c run) (device_low x.device w.0) (code_low c) four.0)

@@ -5,12 +5,12 @@ use mathlib.Core.Bool.{Bool, true, false}
 use mathlib.Core.List.{List, [], ◌∷◌}
 use Prim.Native.Nat.{ℕ, zero, suc, ◌^◌, ◌≤◌, ◌<◌}
 use native.Mathlib.Omega.{arith}
-use lib.Dec.{ltb, leb}
+use lib.Dec.{ltb}
 use lib.ListN.{length, get_or}
 use borrow.Author.Tests.{ltb-true}
 use Rattle.laws.proofs.Tests.{both}
 use Rattle.refusal.specs.Outcome.{Outcome, gives, unless}
-use Rattle.refusal.proofs.Given.{passed_on, given_first}
+use Rattle.refusal.proofs.Given.{given_first}
 use Rattle.ids.specs.Device.{device_byte, device_in_range}
 use Rattle.command.specs.declared.Command.{Command}
 use Rattle.command.specs.declared.Command.TheVariants as k
@@ -21,13 +21,14 @@ use Rattle.message.specs.declared.head.Frame.{Frame}
 use Rattle.ids.specs.Interface.{interface_at, interface_byte}
 use Rattle.message.specs.Fields.{notify_fields}
 use Rattle.message.specs.Head.{command_of_head, fields_of, head_from}
-use Rattle.message.specs.Prefix.{field_list, prefix_of, fields_at, all_fit, checked_fields}
+use Rattle.message.specs.Prefix.{field_list, fields_at, all_fit}
 use Rattle.frame_reader.specs.declared.Record.{Record}
 use Rattle.frame_reader.specs.Payload.{numbered_by}
 use Rattle.frame_reader.specs.Reader.{payload, read_record, frame_of, parsed, run_of}
 use Rattle.frame_reader.proofs.Accepted.{Tested, tested}
-use Rattle.frame_writer.specs.Writer.{own_run, length_for, seven_bit_write, fields_write, frame_write}
+use Rattle.frame_writer.specs.Writer.{fields_write, frame_write}
 use Rattle.frames.proofs.RoundTrip.{written_again_lem}
+use Rattle.frames.proofs.BodyLow.{written_row}
 
 -- the command of a message that was made for a command
 command_back : (c : Command) (f : Fields) → command_of_head (head_from c f) ≡ c
@@ -116,24 +117,11 @@ frame_reads_back bytes later x room e real fits w =
     let same : later ≡ bytes = cc in
     (ap parsed same ∙ e, ap run_of same)
 
--- what is written does not hang on the room, where there is enough of it
-row_given : (x : Frame) (run : List ℕ) (room : ℕ) (later : List ℕ) → frame_write x run room ≡ gives later
-    → seven_bit_write x.device (command_of_head x.head) (prefix_of (command_of_head x.head) (fields_of x.head)) (own_run (command_of_head x.head) run)
-    ≡ gives later
-row_given x run room later e =
-    let c : Command = command_of_head x.head in
-    let f : Fields = fields_of x.head in
-    let pre : List ℕ = prefix_of c f in
-    let e1 = passed_on (device_in_range x.device) 5 (device_byte x.device ∷ []) (fields_write x.device c f run room) later e in
-    let own = given_first (checked_fields c f) _ later e1 in
-    let n = given_first (length_for c (length pre) (length run)) _ later own.2 in
-    passed_on (leb n.0 room) 14 (n.0 ∷ room ∷ []) (seven_bit_write x.device c pre (own_run c run)) later n.2
-
 -- the same without a word on the room: what was written says that it was enough
 pub frame_reads_back_in_any_room : (bytes later : List ℕ) (x : Frame) (room : ℕ) → parsed bytes ≡ gives x → length bytes < 2 ^ 64
     → frame_write x (run_of bytes) room ≡ gives later → (parsed later ≡ gives x) × (run_of later ≡ run_of bytes)
 frame_reads_back_in_any_room bytes later x room e real w =
     let again = frame_written_again bytes x (length bytes) e real (omega arith) in
-    let once : gives later ≡ gives bytes = sym (row_given x (run_of bytes) room later w) ∙ row_given x (run_of bytes) (length bytes) bytes again in
+    let once : gives later ≡ gives bytes = sym (written_row x (run_of bytes) room later w).1 ∙ (written_row x (run_of bytes) (length bytes) bytes again).1 in
     let same : later ≡ bytes = cc in
     (ap parsed same ∙ e, ap run_of same)
