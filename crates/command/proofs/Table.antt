@@ -4,9 +4,9 @@ use mathlib.Core.Path.{◌≡◌, refl, ap, sym, ◌∙◌}
 use mathlib.Core.Bool.{Bool, true, false, ◌&&◌, ◌||◌}
 use mathlib.Core.List.{List, [], ◌∷◌, map}
 use Prim.Native.Nat.{ℕ, suc, ◌<◌}
-use lib.Dec.{eqb, ltb}
+use lib.Dec.{eqb}
 use lib.ListN.{get_or}
-use borrow.Author.Tests.{eqb-true, ne_eqb, ltb-true}
+use borrow.Author.Tests.{eqb-true, ne_eqb}
 use Rattle.laws.specs.Choice.{pick}
 use Rattle.laws.proofs.Rising.{rises}
 use Rattle.laws.proofs.Tests.{both, alike, alike_same, true_is_not_false}
@@ -87,20 +87,6 @@ pub row_at_place : (k : Command) (n : ℕ) (d : Row) → n ≡ place_of k → ge
 row_at_place k n d e =
     ap (λ (m : ℕ). get_or table m d) e
     ∙ same_row_lem (get_or table (place_of k) d) (row_of k) (of_every (λ j. same_row (get_or table (place_of j) d) (row_of j)) refl k)
-
-pub place_in_table : (k : Command) → place_of k < 22
-place_in_table k = ltb-true (place_of k) 22 (of_every (λ j. ltb (place_of j) 22) refl k)
-
--- a command that was read from a byte has that byte as its code
-pub read_code : (ks : List Command) (b : ℕ) (k : Command) → among ks b ≡ gives k → code_of k ≡ b
-read_code [] b k e = absurd (given_not_refused k 6 (b ∷ []) e)
-read_code (j ∷ js) b k e = go (eqb b (code_of j)) refl (read_code js b k) e
-  where
-    go : (t : Bool) → eqb b (code_of j) ≡ t → (among js b ≡ gives k → code_of k ≡ b) → pick t (gives j) (among js b) ≡ gives k → code_of k ≡ b
-    go true h rest g =
-        let same : j ≡ k = cc in
-        ap code_of (sym same) ∙ sym (eqb-true b (code_of j) h)
-    go false h rest g = rest g
 
 -- no other byte is a code: 6 with the byte
 pub no_other_code : (b : ℕ) → ((k : Command) → code_of k ≡ b → ⊥) → command_of b ≡ refused 6 (b ∷ [])

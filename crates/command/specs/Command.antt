@@ -1,11 +1,9 @@
 -- Document 01's twenty-two codes.
 use Rattle.std.specs.Prelude.{List, [], ◌∷◌, ℕ, eqb}
 use Rattle.laws.specs.Choice.{pick}
-use Rattle.refusal.specs.Outcome.{Outcome, gives, refused, refusal}
+use Rattle.refusal.specs.Outcome.{Outcome, gives, refused}
 use Rattle.command.specs.declared.Command.{Command}
 use Rattle.command.specs.declared.Command.TheVariants as k
-use Rattle.command.specs.declared.CommandAnswer.{CommandAnswer}
-use Rattle.command.specs.declared.CommandAnswer.TheVariants as a
 
 -- each command's code
 abbrev pub code_of : Command → ℕ
@@ -50,8 +48,3 @@ among (k ∷ ks) b = pick (eqb b (code_of k)) (gives k) (among ks b)
 -- the command of a byte: "Twenty-two codes"; 6 with the byte for every other
 abbrev pub command_of : ℕ → Outcome Command
 command_of b = among commands b
-
--- the answer in document 01's terms
-abbrev pub command_told : CommandAnswer → Outcome Command
-command_told (a.Ok k) = gives k
-command_told (a.Err e) = refusal e

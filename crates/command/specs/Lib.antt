@@ -1,3 +1,4 @@
 pub mod Command
 pub mod Payload
 pub mod quick
+pub mod Laws

@@ -2,15 +2,15 @@
 #![tactic(auto)]
 
 ghost use Rattle.std.specs.Prelude.{◌≡◌};
-ghost use Rattle.command.specs.Command.{code_of, command_of, command_told};
+ghost use Rattle.command.specs.Command.{code_of, commands, command_of};
+ghost use Rattle.command.specs.Laws.{read_code};
 ghost use Rattle.command.specs.Payload.{direction_of, is_run, payload_of, row_of, raw_length_for};
-ghost use Rattle.command.specs.quick.Place.{place_of};
 
 use ids::ProtocolVersion;
-use refusal::Refusal;
+use refusal::{OfByte, Refusal};
 
 // Which way a message travels.
-#[derive(Drop)]
+#[derive(Clone, Copy, Debug, PartialEq, Eq)]
 pub enum Direction {
     // from a host to the synthesizer
     ToDevice,
@@ -18,7 +18,7 @@ pub enum Direction {
     FromDevice,
 }
 
-#[derive(Clone, Copy)]
+#[derive(Clone, Copy, Debug, PartialEq, Eq)]
 pub enum Command {
     // 00: tells the synthesizer that a control application is there
     ControlAppNotifyRequest,
@@ -66,22 +66,17 @@ pub enum Command {
     PolyChordMemoryDumpResponse,
 }
 
-#[derive(Drop)]
-pub enum CommandAnswer {
-    Ok(Command),
-    Err(Refusal),
-}
-
 // A command's code, how many payload bytes stand ahead of its packed run (all of them where it has none), and how many raw bytes the
 // run holds: 0 where the version decides, where any number may stand, and where there is no run. A pattern's number is not counted.
-#[derive(Clone, Copy)]
+// A raw length of 0 has three meanings, since the paper asks for a table of three numbers.
+#[derive(Clone, Copy, Debug, PartialEq, Eq)]
 pub struct Row {
     pub code: u8,
     pub prefix_len: usize,
     pub raw_len: usize,
 }
 
-pub const COMMANDS: [Row; 22] = [
+pub static COMMANDS: [Row; 22] = [
     Row {
         code: 0x00,
         prefix_len: 1,
@@ -221,78 +216,15 @@ impl Command {
         Command::PolyChordMemoryDumpResponse,
     ];
 
-    // Refuses 6 with the byte.
-    pub fn from_byte(byte: u8) -> CommandAnswer
-        ensures { command_told result ≡ command_of byte }
-    {
-        match byte {
-            0x00 => CommandAnswer::Ok(Command::ControlAppNotifyRequest),
-            0x01 => CommandAnswer::Ok(Command::ProgramDumpRequest),
-            0x02 => CommandAnswer::Ok(Command::ProgramDumpResponse),
-            0x03 => CommandAnswer::Ok(Command::EditBufferDumpRequest),
-            0x04 => CommandAnswer::Ok(Command::EditBufferDumpResponse),
-            0x05 => CommandAnswer::Ok(Command::GlobalParameterDumpRequest),
-            0x06 => CommandAnswer::Ok(Command::GlobalParameterDumpResponse),
-            0x07 => CommandAnswer::Ok(Command::SingleUserPatternDumpRequest),
-            0x08 => CommandAnswer::Ok(Command::UserPatternDumpResponse),
-            0x09 => CommandAnswer::Ok(Command::ProgramBankDumpRequest),
-            0x0A => CommandAnswer::Ok(Command::BankProgramNamesDumpRequest),
-            0x0B => CommandAnswer::Ok(Command::BankProgramNamesDumpResponse),
-            0x0C => CommandAnswer::Ok(Command::SingleProgramNameDumpRequest),
-            0x0D => CommandAnswer::Ok(Command::SingleProgramNameDumpResponse),
-            0x0E => CommandAnswer::Ok(Command::EditBufferPatternDumpRequest),
-            0x10 => CommandAnswer::Ok(Command::ControlAppNotifyResponse),
-            0x11 => CommandAnswer::Ok(Command::CalibrationDataDumpRequest),
-            0x12 => CommandAnswer::Ok(Command::CalibrationDataDumpResponse),
-            0x1B => CommandAnswer::Ok(Command::ChordMemoryDumpRequest),
-            0x1C => CommandAnswer::Ok(Command::ChordMemoryDumpResponse),
-            0x1D => CommandAnswer::Ok(Command::PolyChordMemoryDumpRequest),
-            0x1E => CommandAnswer::Ok(Command::PolyChordMemoryDumpResponse),
-            _ => CommandAnswer::Err(Refusal::UnknownCommand(byte)),
-        }
-    }
-
-    pub fn to_byte(self) -> u8
-        ensures { result ≡ code_of self }
-    {
-        match self {
-            Command::ControlAppNotifyRequest => 0x00,
-            Command::ProgramDumpRequest => 0x01,
-            Command::ProgramDumpResponse => 0x02,
-            Command::EditBufferDumpRequest => 0x03,
-            Command::EditBufferDumpResponse => 0x04,
-            Command::GlobalParameterDumpRequest => 0x05,
-            Command::GlobalParameterDumpResponse => 0x06,
-            Command::SingleUserPatternDumpRequest => 0x07,
-            Command::UserPatternDumpResponse => 0x08,
-            Command::ProgramBankDumpRequest => 0x09,
-            Command::BankProgramNamesDumpRequest => 0x0A,
-            Command::BankProgramNamesDumpResponse => 0x0B,
-            Command::SingleProgramNameDumpRequest => 0x0C,
-            Command::SingleProgramNameDumpResponse => 0x0D,
-            Command::EditBufferPatternDumpRequest => 0x0E,
-            Command::ControlAppNotifyResponse => 0x10,
-            Command::CalibrationDataDumpRequest => 0x11,
-            Command::CalibrationDataDumpResponse => 0x12,
-            Command::ChordMemoryDumpRequest => 0x1B,
-            Command::ChordMemoryDumpResponse => 0x1C,
-            Command::PolyChordMemoryDumpRequest => 0x1D,
-            Command::PolyChordMemoryDumpResponse => 0x1E,
-        }
-    }
-
     // The dumps and the answer to a control application come from the synthesizer.
     pub fn direction(self) -> Direction
         ensures { result ≡ direction_of self }
     {
-        if self.carries_run() {
-            return Direction::FromDevice;
+        if self.carries_run() || self == Command::ControlAppNotifyResponse {
+            Direction::FromDevice
+        } else {
+            Direction::ToDevice
         }
-        let row = self.row();
-        if row.code == 0x10 {
-            return Direction::FromDevice;
-        }
-        Direction::ToDevice
     }
 
     // Does a message of this command end with a packed run?
@@ -313,55 +245,62 @@ impl Command {
         }
     }
 
-    // The command's place in the table.
-    fn place(self) -> usize
-        ensures { result ≡ place_of self }
-    {
-        match self {
-            Command::ControlAppNotifyRequest => 0,
-            Command::ProgramDumpRequest => 1,
-            Command::ProgramDumpResponse => 2,
-            Command::EditBufferDumpRequest => 3,
-            Command::EditBufferDumpResponse => 4,
-            Command::GlobalParameterDumpRequest => 5,
-            Command::GlobalParameterDumpResponse => 6,
-            Command::SingleUserPatternDumpRequest => 7,
-            Command::UserPatternDumpResponse => 8,
-            Command::ProgramBankDumpRequest => 9,
-            Command::BankProgramNamesDumpRequest => 10,
-            Command::BankProgramNamesDumpResponse => 11,
-            Command::SingleProgramNameDumpRequest => 12,
-            Command::SingleProgramNameDumpResponse => 13,
-            Command::EditBufferPatternDumpRequest => 14,
-            Command::ControlAppNotifyResponse => 15,
-            Command::CalibrationDataDumpRequest => 16,
-            Command::CalibrationDataDumpResponse => 17,
-            Command::ChordMemoryDumpRequest => 18,
-            Command::ChordMemoryDumpResponse => 19,
-            Command::PolyChordMemoryDumpRequest => 20,
-            Command::PolyChordMemoryDumpResponse => 21,
-        }
-    }
-
     // The command's row of the table.
     pub fn row(self) -> Row
         ensures { result ≡ row_of self }
     {
-        let place = self.place();
-        COMMANDS[place]
+        COMMANDS[self as usize]
     }
+}
+
+impl OfByte for Command {
+    ghost of_byte = { command_of };
+
+    ghost byte_of = { code_of };
+
+    // Refuses 6 with the byte.
+    fn from_byte(byte: u8) -> Result<Command, Refusal> {
+        match byte {
+            0x00 => Ok(Command::ControlAppNotifyRequest),
+            0x01 => Ok(Command::ProgramDumpRequest),
+            0x02 => Ok(Command::ProgramDumpResponse),
+            0x03 => Ok(Command::EditBufferDumpRequest),
+            0x04 => Ok(Command::EditBufferDumpResponse),
+            0x05 => Ok(Command::GlobalParameterDumpRequest),
+            0x06 => Ok(Command::GlobalParameterDumpResponse),
+            0x07 => Ok(Command::SingleUserPatternDumpRequest),
+            0x08 => Ok(Command::UserPatternDumpResponse),
+            0x09 => Ok(Command::ProgramBankDumpRequest),
+            0x0A => Ok(Command::BankProgramNamesDumpRequest),
+            0x0B => Ok(Command::BankProgramNamesDumpResponse),
+            0x0C => Ok(Command::SingleProgramNameDumpRequest),
+            0x0D => Ok(Command::SingleProgramNameDumpResponse),
+            0x0E => Ok(Command::EditBufferPatternDumpRequest),
+            0x10 => Ok(Command::ControlAppNotifyResponse),
+            0x11 => Ok(Command::CalibrationDataDumpRequest),
+            0x12 => Ok(Command::CalibrationDataDumpResponse),
+            0x1B => Ok(Command::ChordMemoryDumpRequest),
+            0x1C => Ok(Command::ChordMemoryDumpResponse),
+            0x1D => Ok(Command::PolyChordMemoryDumpRequest),
+            0x1E => Ok(Command::PolyChordMemoryDumpResponse),
+            _ => Err(Refusal::UnknownCommand(byte)),
+        }
+    }
+
+    fn to_byte(self) -> u8 {
+        self.row().code
+    }
+
+    ghost same_byte = { λ b x. read_code commands b x };
 }
 
 // How many raw bytes a dump of this command and version names: the version decides for programs, the table for the others.
 pub fn raw_len(command: Command, version: ProtocolVersion) -> usize
     ensures { result ≡ raw_length_for command version.0 }
 {
-    let code = command.to_byte();
-    if code == 0x02 {
-        return version.program_data_len();
+    match command {
+        Command::ProgramDumpResponse | Command::EditBufferDumpResponse =>
+            version.program_data_len(),
+        _ => command.row().raw_len,
     }
-    if code == 0x04 {
-        return version.program_data_len();
-    }
-    command.row().raw_len
 }

@@ -1,11 +1,9 @@
 -- The device byte of document 01: "00 to 0F a unit, 7F everyone."
 use Rattle.std.specs.Prelude.{Bool, true, [], ◌∷◌, ℕ, ltb, eqb}
 use Rattle.laws.specs.Choice.{pick}
-use Rattle.refusal.specs.Outcome.{Outcome, gives, refusal, unless}
+use Rattle.refusal.specs.Outcome.{Outcome, gives, unless}
 use Rattle.ids.specs.declared.device.DeviceId.{DeviceId}
 use Rattle.ids.specs.declared.device.DeviceId.TheVariants as d
-use Rattle.ids.specs.declared.device.DeviceAnswer.{DeviceAnswer}
-use Rattle.ids.specs.declared.device.DeviceAnswer.TheVariants as a
 
 -- 00 to 0F a unit, 7F everyone; 5 with the byte for any other
 abbrev pub device_of : ℕ → Outcome DeviceId
@@ -20,11 +18,6 @@ device_byte d.Broadcast = 0x7F
 abbrev pub reaches : DeviceId → DeviceId → Bool
 reaches d.Broadcast listener = true
 reaches (d.Unit n) listener = eqb n (device_byte listener)
-
--- the answer in document 01's terms
-abbrev pub device_told : DeviceAnswer → Outcome DeviceId
-device_told (a.Ok x) = gives x
-device_told (a.Err e) = refusal e
 
 -- "a unit above 0F" can be made by hand, and no device byte stands for it
 abbrev pub device_in_range : DeviceId → Bool

@@ -1,11 +1,9 @@
 -- The interface byte of document 01: "interface (0, 1, 2)".
 use Rattle.std.specs.Prelude.{[], ◌∷◌, ℕ, ltb, eqb}
 use Rattle.laws.specs.Choice.{pick}
-use Rattle.refusal.specs.Outcome.{Outcome, gives, refusal, unless}
+use Rattle.refusal.specs.Outcome.{Outcome, gives, unless}
 use Rattle.ids.specs.declared.interface.Interface.{Interface}
 use Rattle.ids.specs.declared.interface.Interface.TheVariants as i
-use Rattle.ids.specs.declared.interface.InterfaceAnswer.{InterfaceAnswer}
-use Rattle.ids.specs.declared.interface.InterfaceAnswer.TheVariants as ia
 
 -- MIDI, USB, Wi-Fi
 abbrev pub interface_at : ℕ → Interface
@@ -14,11 +12,6 @@ interface_at b = pick (eqb b 0) i.Midi (pick (eqb b 1) i.Usb i.WiFi)
 -- 12 with the byte
 abbrev pub interface_of : ℕ → Outcome Interface
 interface_of b = unless (ltb b 3) 12 (b ∷ []) (gives (interface_at b))
-
--- the code's answer in document 01's terms
-abbrev pub interface_told : InterfaceAnswer → Outcome Interface
-interface_told (ia.Ok x) = gives x
-interface_told (ia.Err e) = refusal e
 
 -- the byte of an interface
 abbrev pub interface_byte : Interface → ℕ

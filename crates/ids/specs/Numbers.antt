@@ -1,16 +1,10 @@
 -- The small numbers of document 01: "Bank 0 to 7, program 0 to 127, pattern 0 to 31".
 -- Each is read from a byte, and a byte out of range is refused with its number and the byte itself.
 use Rattle.std.specs.Prelude.{[], ◌∷◌, ℕ, ltb}
-use Rattle.refusal.specs.Outcome.{Outcome, gives, refusal, unless}
+use Rattle.refusal.specs.Outcome.{Outcome, gives, unless}
 use Rattle.ids.specs.declared.bank.Bank.{Bank}
 use Rattle.ids.specs.declared.program.ProgramNumber.{ProgramNumber}
 use Rattle.ids.specs.declared.pattern.PatternNumber.{PatternNumber}
-use Rattle.ids.specs.declared.bank.BankAnswer.{BankAnswer}
-use Rattle.ids.specs.declared.bank.BankAnswer.TheVariants as b
-use Rattle.ids.specs.declared.program.ProgramAnswer.{ProgramAnswer}
-use Rattle.ids.specs.declared.program.ProgramAnswer.TheVariants as p
-use Rattle.ids.specs.declared.pattern.PatternAnswer.{PatternAnswer}
-use Rattle.ids.specs.declared.pattern.PatternAnswer.TheVariants as t
 
 -- "Bank 0 to 7"; 9 with the byte
 abbrev pub bank_of : ℕ → Outcome Bank
@@ -23,18 +17,3 @@ program_of n = unless (ltb n 128) 10 (n ∷ []) (gives (record { 0 = n }))
 -- "pattern 0 to 31"; 11 with the byte
 abbrev pub pattern_of : ℕ → Outcome PatternNumber
 pattern_of n = unless (ltb n 32) 11 (n ∷ []) (gives (record { 0 = n }))
-
--- a bank's answer in document 01's terms
-abbrev pub bank_told : BankAnswer → Outcome Bank
-bank_told (b.Ok x) = gives x
-bank_told (b.Err e) = refusal e
-
--- a program number's answer in document 01's terms
-abbrev pub program_told : ProgramAnswer → Outcome ProgramNumber
-program_told (p.Ok x) = gives x
-program_told (p.Err e) = refusal e
-
--- a pattern number's answer in document 01's terms
-abbrev pub pattern_told : PatternAnswer → Outcome PatternNumber
-pattern_told (t.Ok x) = gives x
-pattern_told (t.Err e) = refusal e

@@ -1,10 +1,8 @@
 -- The protocol version of document 01, "protocol version 6 or 7", and the raw length that hangs on it.
 use Rattle.std.specs.Prelude.{◌||◌, [], ◌∷◌, ℕ, eqb}
 use Rattle.laws.specs.Choice.{pick}
-use Rattle.refusal.specs.Outcome.{Outcome, gives, refusal, unless}
+use Rattle.refusal.specs.Outcome.{Outcome, gives, unless}
 use Rattle.ids.specs.declared.version.ProtocolVersion.{ProtocolVersion}
-use Rattle.ids.specs.declared.version.VersionAnswer.{VersionAnswer}
-use Rattle.ids.specs.declared.version.VersionAnswer.TheVariants as v
 
 -- "protocol version 6 or 7"; 8 with the byte
 abbrev pub version_of : ℕ → Outcome ProtocolVersion
@@ -13,8 +11,3 @@ version_of n = unless (eqb n 6 || eqb n 7) 8 (n ∷ []) (gives (record { 0 = n }
 -- program and edit buffer: 242 raw bytes in version 6, else 245. (A version made by hand counts as 7, as in the Rust.)
 abbrev pub program_data_length : ℕ → ℕ
 program_data_length n = pick (eqb n 6) 242 245
-
--- the answer in document 01's terms
-abbrev pub version_told : VersionAnswer → Outcome ProtocolVersion
-version_told (v.Ok x) = gives x
-version_told (v.Err e) = refusal e

@@ -1,38 +1,36 @@
 // One of the eight program banks, A to H.
-ghost use Rattle.std.specs.Prelude.{◌≡◌};
-ghost use Rattle.ids.specs.Numbers.{bank_of, bank_told};
+ghost use Rattle.refusal.proofs.Given.{given_number};
+ghost use Rattle.ids.specs.Numbers.{bank_of};
 
-use refusal::Refusal;
+use refusal::{OfByte, Refusal};
 
 pub const BANK_COUNT: u8 = 8;
 
-#[derive(Clone, Copy)]
+#[derive(Clone, Copy, Debug, PartialEq, Eq)]
 pub struct Bank(pub u8);
-
-#[derive(Drop)]
-pub enum BankAnswer {
-    Ok(Bank),
-    Err(Refusal),
-}
 
 impl Bank {
     pub const A: Bank = Bank(0);
 
     pub const H: Bank = Bank(7);
+}
 
-    pub fn new(index: u8) -> BankAnswer
-        ensures { bank_told result ≡ bank_of index }
-    {
-        if index < BANK_COUNT {
-            BankAnswer::Ok(Bank(index))
+impl OfByte for Bank {
+    ghost of_byte = { bank_of };
+
+    ghost byte_of = { λ x. x.0 };
+
+    fn from_byte(byte: u8) -> Result<Bank, Refusal> {
+        if byte < BANK_COUNT {
+            Ok(Bank(byte))
         } else {
-            BankAnswer::Err(Refusal::BankOutOfRange(index))
+            Err(Refusal::BankOutOfRange(byte))
         }
     }
 
-    pub fn index(self) -> u8
-        ensures { result ≡ self.0 }
-    {
+    fn to_byte(self) -> u8 {
         self.0
     }
+
+    ghost same_byte = { λ b x. given_number _ _ _ _ x (λ y. y.0) };
 }

@@ -1,45 +1,19 @@
 // The device byte of a frame.
 ghost use Rattle.std.specs.Prelude.{◌≡◌};
-ghost use Rattle.ids.specs.Device.{device_of, device_byte, device_told, reaches};
+ghost use Rattle.ids.specs.Device.{device_of, device_byte, reaches};
+ghost use Rattle.ids.specs.Laws.{device_same_byte};
 
-use refusal::Refusal;
+use refusal::{OfByte, Refusal};
 
 // Whom a frame is for: one unit, or everyone.
-#[derive(Clone, Copy)]
+#[derive(Clone, Copy, Debug, PartialEq, Eq)]
 pub enum DeviceId {
     Unit(u8),
     Broadcast,
 }
 
-#[derive(Drop)]
-pub enum DeviceAnswer {
-    Ok(DeviceId),
-    Err(Refusal),
-}
-
 impl DeviceId {
     pub const BROADCAST_BYTE: u8 = 0x7F;
-
-    pub fn from_byte(byte: u8) -> DeviceAnswer
-        ensures { device_told result ≡ device_of byte }
-    {
-        if byte < 16 {
-            return DeviceAnswer::Ok(DeviceId::Unit(byte));
-        }
-        if byte == DeviceId::BROADCAST_BYTE {
-            return DeviceAnswer::Ok(DeviceId::Broadcast);
-        }
-        DeviceAnswer::Err(Refusal::InvalidDeviceId(byte))
-    }
-
-    pub fn to_byte(self) -> u8
-        ensures { result ≡ device_byte self }
-    {
-        match self {
-            DeviceId::Unit(id) => id,
-            DeviceId::Broadcast => DeviceId::BROADCAST_BYTE,
-        }
-    }
 
     // Does a message for self concern a unit that listens as listener?
     pub fn addresses(self, listener: DeviceId) -> bool
@@ -50,4 +24,27 @@ impl DeviceId {
             DeviceId::Unit(id) => id == listener.to_byte(),
         }
     }
+}
+
+impl OfByte for DeviceId {
+    ghost of_byte = { device_of };
+
+    ghost byte_of = { device_byte };
+
+    fn from_byte(byte: u8) -> Result<DeviceId, Refusal> {
+        match byte {
+            0..16 => Ok(DeviceId::Unit(byte)),
+            DeviceId::BROADCAST_BYTE => Ok(DeviceId::Broadcast),
+            _ => Err(Refusal::InvalidDeviceId(byte)),
+        }
+    }
+
+    fn to_byte(self) -> u8 {
+        match self {
+            DeviceId::Unit(id) => id,
+            DeviceId::Broadcast => DeviceId::BROADCAST_BYTE,
+        }
+    }
+
+    ghost same_byte = { device_same_byte };
 }

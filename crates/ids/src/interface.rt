@@ -1,39 +1,46 @@
 // The interface that a control application talks over.
 ghost use Rattle.std.specs.Prelude.{◌≡◌};
-ghost use Rattle.ids.specs.Interface.{interface_of, interface_told, interface_byte, interface_at};
+ghost use Rattle.ids.specs.Interface.{interface_of, interface_byte, interface_at};
+ghost use Rattle.ids.specs.Laws.{interface_same_byte};
 
-use refusal::Refusal;
+use refusal::{OfByte, Refusal};
 
 // The three MIDI ports of the synthesizer.
-#[derive(Clone, Copy)]
+#[derive(Clone, Copy, Debug, PartialEq, Eq)]
 pub enum Interface {
     Midi,
     Usb,
     WiFi,
 }
 
-#[derive(Drop)]
-pub enum InterfaceAnswer {
-    Ok(Interface),
-    Err(Refusal),
-}
-
 impl Interface {
-    // Refuses 12 with the byte.
-    pub fn from_byte(byte: u8) -> InterfaceAnswer
-        ensures { interface_told result ≡ interface_of byte }
+    // The interface of a byte that was tested before.
+    pub fn from_tested(byte: u8) -> Interface
+        ensures { result ≡ interface_at byte }
     {
         match byte {
-            0 => InterfaceAnswer::Ok(Interface::Midi),
-            1 => InterfaceAnswer::Ok(Interface::Usb),
-            2 => InterfaceAnswer::Ok(Interface::WiFi),
-            _ => InterfaceAnswer::Err(Refusal::InvalidInterface(byte)),
+            0 => Interface::Midi,
+            1 => Interface::Usb,
+            _ => Interface::WiFi,
+        }
+    }
+}
+
+impl OfByte for Interface {
+    ghost of_byte = { interface_of };
+
+    ghost byte_of = { interface_byte };
+
+    // Refuses 12 with the byte.
+    fn from_byte(byte: u8) -> Result<Interface, Refusal> {
+        if byte < 3 {
+            Ok(Interface::from_tested(byte))
+        } else {
+            Err(Refusal::InvalidInterface(byte))
         }
     }
 
-    pub fn to_byte(self) -> u8
-        ensures { result ≡ interface_byte self }
-    {
+    fn to_byte(self) -> u8 {
         match self {
             Interface::Midi => 0,
             Interface::Usb => 1,
@@ -41,16 +48,5 @@ impl Interface {
         }
     }
 
-    // The interface of a byte that was tested before.
-    pub fn from_tested(byte: u8) -> Interface
-        ensures { result ≡ interface_at byte }
-    {
-        if byte == 0 {
-            return Interface::Midi;
-        }
-        if byte == 1 {
-            return Interface::Usb;
-        }
-        Interface::WiFi
-    }
+    ghost same_byte = { interface_same_byte };
 }

@@ -1,5 +1,7 @@
 // The small numbers and names that every frame is made of: each is made from a byte by a call that refuses what is out of range.
 // A value made by hand may still hold any byte, so whoever writes one to the wire tests it again.
+// Bank, program and pattern number have an impl of OfByte each: they differ in type, count and refusal, and a trait that asked each for the three
+// would take as many lines.
 #![tactic(auto)]
 
 pub mod bank;
@@ -11,14 +13,14 @@ pub mod program;
 pub mod slot;
 pub mod version;
 
-pub use bank::{Bank, BankAnswer};
-pub use device::{DeviceAnswer, DeviceId};
-pub use interface::{Interface, InterfaceAnswer};
+pub use bank::Bank;
+pub use device::DeviceId;
+pub use interface::Interface;
 pub use model::Model;
-pub use pattern::{PatternAnswer, PatternNumber};
-pub use program::{ProgramAnswer, ProgramNumber};
+pub use pattern::PatternNumber;
+pub use program::ProgramNumber;
 pub use slot::Slot;
-pub use version::{ProtocolVersion, VersionAnswer};
+pub use version::ProtocolVersion;
 
 // Behringer's manufacturer number.
 pub const MANUFACTURER_ID: [u8; 3] = [0x00, 0x20, 0x32];

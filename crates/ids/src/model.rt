@@ -3,7 +3,7 @@ ghost use Rattle.std.specs.Prelude.{◌≡◌};
 ghost use Rattle.ids.specs.Model.{voices, keyboard};
 
 // The synthesizers that share the model byte and the protocol.
-#[derive(Drop)]
+#[derive(Clone, Copy, Debug, PartialEq, Eq)]
 pub enum Model {
     DeepMind6,
     DeepMind6X,
@@ -29,12 +29,8 @@ impl Model {
         ensures { result ≡ voices self }
     {
         match self {
-            Model::DeepMind6 => 6,
-            Model::DeepMind6X => 6,
-            Model::DeepMind12 => 12,
-            Model::DeepMind12X => 12,
-            Model::DeepMind12D => 12,
-            Model::DeepMind12XD => 12,
+            Model::DeepMind6 | Model::DeepMind6X => 6,
+            Model::DeepMind12 | Model::DeepMind12X | Model::DeepMind12D | Model::DeepMind12XD => 12,
         }
     }
 
@@ -42,12 +38,8 @@ impl Model {
         ensures { result ≡ keyboard self }
     {
         match self {
-            Model::DeepMind6 => true,
-            Model::DeepMind6X => true,
-            Model::DeepMind12 => true,
-            Model::DeepMind12X => true,
-            Model::DeepMind12D => false,
-            Model::DeepMind12XD => false,
+            Model::DeepMind6 | Model::DeepMind6X | Model::DeepMind12 | Model::DeepMind12X => true,
+            Model::DeepMind12D | Model::DeepMind12XD => false,
         }
     }
 }

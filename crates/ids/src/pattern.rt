@@ -1,38 +1,36 @@
 // The number of a user pattern.
-ghost use Rattle.std.specs.Prelude.{◌≡◌};
-ghost use Rattle.ids.specs.Numbers.{pattern_of, pattern_told};
+ghost use Rattle.refusal.proofs.Given.{given_number};
+ghost use Rattle.ids.specs.Numbers.{pattern_of};
 
-use refusal::Refusal;
+use refusal::{OfByte, Refusal};
 
 pub const USER_PATTERN_COUNT: u8 = 32;
 
-#[derive(Clone, Copy)]
+#[derive(Clone, Copy, Debug, PartialEq, Eq)]
 pub struct PatternNumber(pub u8);
-
-#[derive(Drop)]
-pub enum PatternAnswer {
-    Ok(PatternNumber),
-    Err(Refusal),
-}
 
 impl PatternNumber {
     pub const FIRST: PatternNumber = PatternNumber(0);
 
     pub const LAST: PatternNumber = PatternNumber(31);
+}
 
-    pub fn new(number: u8) -> PatternAnswer
-        ensures { pattern_told result ≡ pattern_of number }
-    {
-        if number < USER_PATTERN_COUNT {
-            PatternAnswer::Ok(PatternNumber(number))
+impl OfByte for PatternNumber {
+    ghost of_byte = { pattern_of };
+
+    ghost byte_of = { λ x. x.0 };
+
+    fn from_byte(byte: u8) -> Result<PatternNumber, Refusal> {
+        if byte < USER_PATTERN_COUNT {
+            Ok(PatternNumber(byte))
         } else {
-            PatternAnswer::Err(Refusal::PatternOutOfRange(number))
+            Err(Refusal::PatternOutOfRange(byte))
         }
     }
 
-    pub fn get(self) -> u8
-        ensures { result ≡ self.0 }
-    {
+    fn to_byte(self) -> u8 {
         self.0
     }
+
+    ghost same_byte = { λ b x. given_number _ _ _ _ x (λ y. y.0) };
 }

@@ -1,38 +1,36 @@
 // The number of a program in its bank.
-ghost use Rattle.std.specs.Prelude.{◌≡◌};
-ghost use Rattle.ids.specs.Numbers.{program_of, program_told};
+ghost use Rattle.refusal.proofs.Given.{given_number};
+ghost use Rattle.ids.specs.Numbers.{program_of};
 
-use refusal::Refusal;
+use refusal::{OfByte, Refusal};
 
 pub const PROGRAMS_PER_BANK: u8 = 128;
 
-#[derive(Clone, Copy)]
+#[derive(Clone, Copy, Debug, PartialEq, Eq)]
 pub struct ProgramNumber(pub u8);
-
-#[derive(Drop)]
-pub enum ProgramAnswer {
-    Ok(ProgramNumber),
-    Err(Refusal),
-}
 
 impl ProgramNumber {
     pub const FIRST: ProgramNumber = ProgramNumber(0);
 
     pub const LAST: ProgramNumber = ProgramNumber(127);
+}
 
-    pub fn new(number: u8) -> ProgramAnswer
-        ensures { program_told result ≡ program_of number }
-    {
-        if number < PROGRAMS_PER_BANK {
-            ProgramAnswer::Ok(ProgramNumber(number))
+impl OfByte for ProgramNumber {
+    ghost of_byte = { program_of };
+
+    ghost byte_of = { λ x. x.0 };
+
+    fn from_byte(byte: u8) -> Result<ProgramNumber, Refusal> {
+        if byte < PROGRAMS_PER_BANK {
+            Ok(ProgramNumber(byte))
         } else {
-            ProgramAnswer::Err(Refusal::ProgramOutOfRange(number))
+            Err(Refusal::ProgramOutOfRange(byte))
         }
     }
 
-    pub fn get(self) -> u8
-        ensures { result ≡ self.0 }
-    {
+    fn to_byte(self) -> u8 {
         self.0
     }
+
+    ghost same_byte = { λ b x. given_number _ _ _ _ x (λ y. y.0) };
 }

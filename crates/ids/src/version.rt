@@ -1,41 +1,18 @@
 // The protocol's version.
+ghost use Rattle.refusal.proofs.Given.{given_number};
 ghost use Rattle.std.specs.Prelude.{◌≡◌};
-ghost use Rattle.ids.specs.Version.{version_of, program_data_length, version_told};
+ghost use Rattle.ids.specs.Version.{version_of, program_data_length};
 
-use refusal::Refusal;
+use refusal::{OfByte, Refusal};
 
 // The protocol version that a dump carries.
-#[derive(Clone, Copy)]
+#[derive(Clone, Copy, Debug, PartialEq, Eq)]
 pub struct ProtocolVersion(pub u8);
-
-#[derive(Drop)]
-pub enum VersionAnswer {
-    Ok(ProtocolVersion),
-    Err(Refusal),
-}
 
 impl ProtocolVersion {
     pub const V6: ProtocolVersion = ProtocolVersion(6);
 
     pub const V7: ProtocolVersion = ProtocolVersion(7);
-
-    pub fn new(version: u8) -> VersionAnswer
-        ensures { version_told result ≡ version_of version }
-    {
-        if version == 6 {
-            return VersionAnswer::Ok(ProtocolVersion(version));
-        }
-        if version == 7 {
-            return VersionAnswer::Ok(ProtocolVersion(version));
-        }
-        VersionAnswer::Err(Refusal::UnsupportedProtocolVersion(version))
-    }
-
-    pub fn get(self) -> u8
-        ensures { result ≡ self.0 }
-    {
-        self.0
-    }
 
     // How many raw bytes a program or edit buffer dump of this version carries.
     pub fn program_data_len(self) -> usize
@@ -43,4 +20,23 @@ impl ProtocolVersion {
     {
         if self.0 == 6 { 242 } else { 245 }
     }
+}
+
+impl OfByte for ProtocolVersion {
+    ghost of_byte = { version_of };
+
+    ghost byte_of = { λ x. x.0 };
+
+    fn from_byte(byte: u8) -> Result<ProtocolVersion, Refusal> {
+        match byte {
+            6 | 7 => Ok(ProtocolVersion(byte)),
+            _ => Err(Refusal::UnsupportedProtocolVersion(byte)),
+        }
+    }
+
+    fn to_byte(self) -> u8 {
+        self.0
+    }
+
+    ghost same_byte = { λ b x. given_number _ _ _ _ x (λ y. y.0) };
 }

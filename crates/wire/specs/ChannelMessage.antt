@@ -1,19 +1,15 @@
 -- Channel messages: what they are on the wire, and what three bytes mean.
-use Rattle.std.specs.Prelude.{Bool, ◌&&◌, List, [], ◌∷◌, ℕ, ◌+◌, ◌*◌, ◌/◌, ◌%◌, ltb, leb, eqb}
+use Rattle.std.specs.Prelude.{Bool, ◌&&◌, List, [], ◌∷◌, ℕ, ◌+◌, ◌*◌, ◌/◌, ◌%◌, ltb, leb, eqb, None, Option, Some}
 use Rattle.laws.specs.Choice.{pick}
 use Rattle.refusal.specs.Outcome.{Outcome, unless, with_room}
 use Rattle.wire.specs.declared.Channel.{Channel}
 use Rattle.wire.specs.Status.{data_length, is_channel_status}
 use Rattle.wire.specs.declared.channel_message.ChannelMessage.{ChannelMessage}
 use Rattle.wire.specs.declared.channel_message.ChannelMessage.TheVariants as m
-use Rattle.wire.specs.declared.channel_message.MaybeChannelMessage.{MaybeChannelMessage}
-use Rattle.wire.specs.declared.channel_message.MaybeChannelMessage.TheVariants as o
-use Rattle.wire.specs.declared.channel_message.MaybeLen.{MaybeLen}
-use Rattle.wire.specs.declared.channel_message.MaybeLen.TheVariants as n
 
 -- how many data bytes follow a status byte, asked of channel status bytes alone
-abbrev pub channel_data_length : ℕ → MaybeLen
-channel_data_length b = pick (is_channel_status b) (n.Some (data_length b)) n.None
+abbrev pub channel_data_length : ℕ → Option ℕ
+channel_data_length b = pick (is_channel_status b) (Some (data_length b)) None
 
 -- MIDI 1.0: the high four bits of each message's status byte
 abbrev pub status_nibble : ChannelMessage → ℕ
@@ -44,27 +40,27 @@ abbrev pub channel_write : Channel → ChannelMessage → ℕ → Outcome (List 
 channel_write c m room = unless (ltb c.0 16) 17 (c.0 ∷ []) (with_room room (channel_bytes c m))
 
 -- what a status byte and its data mean; the data's top bits are ignored, and of one-byte messages the second byte too
-abbrev pub channel_message : ℕ → ℕ → ℕ → MaybeChannelMessage
+abbrev pub channel_message : ℕ → ℕ → ℕ → Option ChannelMessage
 channel_message status first second =
-    pick (eqb (status / 16) 0x8) (o.Some (m.NoteOff (first % 128) (second % 128)))
-    (pick (eqb (status / 16) 0x9) (o.Some (m.NoteOn (first % 128) (second % 128)))
-    (pick (eqb (status / 16) 0xA) (o.Some (m.PolyKeyPressure (first % 128) (second % 128)))
-    (pick (eqb (status / 16) 0xB) (o.Some (m.ControlChange (first % 128) (second % 128)))
-    (pick (eqb (status / 16) 0xC) (o.Some (m.ProgramChange (first % 128)))
-    (pick (eqb (status / 16) 0xD) (o.Some (m.ChannelPressure (first % 128)))
-    (pick (eqb (status / 16) 0xE) (o.Some (m.PitchBend (first % 128 + 128 * (second % 128)))) o.None))))))
+    pick (eqb (status / 16) 0x8) (Some (m.NoteOff (first % 128) (second % 128)))
+    (pick (eqb (status / 16) 0x9) (Some (m.NoteOn (first % 128) (second % 128)))
+    (pick (eqb (status / 16) 0xA) (Some (m.PolyKeyPressure (first % 128) (second % 128)))
+    (pick (eqb (status / 16) 0xB) (Some (m.ControlChange (first % 128) (second % 128)))
+    (pick (eqb (status / 16) 0xC) (Some (m.ProgramChange (first % 128)))
+    (pick (eqb (status / 16) 0xD) (Some (m.ChannelPressure (first % 128)))
+    (pick (eqb (status / 16) 0xE) (Some (m.PitchBend (first % 128 + 128 * (second % 128)))) None))))))
 
 -- a channel message by its status nibble (80, 90 .. E0) and two numbers: a bend is the first of them whole, every other message has
 -- the first's low byte and the second
-abbrev pub channel_kind : ℕ → ℕ → ℕ → MaybeChannelMessage
+abbrev pub channel_kind : ℕ → ℕ → ℕ → Option ChannelMessage
 channel_kind nibble a b =
-    pick (eqb nibble 0x80) (o.Some (m.NoteOff (a % 256) b))
-    (pick (eqb nibble 0x90) (o.Some (m.NoteOn (a % 256) b))
-    (pick (eqb nibble 0xA0) (o.Some (m.PolyKeyPressure (a % 256) b))
-    (pick (eqb nibble 0xB0) (o.Some (m.ControlChange (a % 256) b))
-    (pick (eqb nibble 0xC0) (o.Some (m.ProgramChange (a % 256)))
-    (pick (eqb nibble 0xD0) (o.Some (m.ChannelPressure (a % 256)))
-    (pick (eqb nibble 0xE0) (o.Some (m.PitchBend a)) o.None))))))
+    pick (eqb nibble 0x80) (Some (m.NoteOff (a % 256) b))
+    (pick (eqb nibble 0x90) (Some (m.NoteOn (a % 256) b))
+    (pick (eqb nibble 0xA0) (Some (m.PolyKeyPressure (a % 256) b))
+    (pick (eqb nibble 0xB0) (Some (m.ControlChange (a % 256) b))
+    (pick (eqb nibble 0xC0) (Some (m.ProgramChange (a % 256)))
+    (pick (eqb nibble 0xD0) (Some (m.ChannelPressure (a % 256)))
+    (pick (eqb nibble 0xE0) (Some (m.PitchBend a)) None))))))
 
 -- "in range": data to 127, a bend to 16,383
 abbrev pub message_in_range : ChannelMessage → Bool

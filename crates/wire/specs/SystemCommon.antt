@@ -1,23 +1,19 @@
 -- System common messages: "F1, F3 and a value to 127; F2 and a position to 16,383, low seven first; F6."
-use Rattle.std.specs.Prelude.{Bool, true, List, [], ◌∷◌, ℕ, ◌+◌, ◌*◌, ◌/◌, ◌%◌, leb, eqb}
+use Rattle.std.specs.Prelude.{Bool, true, List, [], ◌∷◌, ℕ, ◌+◌, ◌*◌, ◌/◌, ◌%◌, leb, eqb, None, Option, Some}
 use Rattle.laws.specs.Choice.{pick}
 use Rattle.refusal.specs.Outcome.{Outcome, unless, with_room}
 use Rattle.wire.specs.declared.system_common.SystemCommon.{SystemCommon}
 use Rattle.wire.specs.declared.system_common.SystemCommon.TheVariants as m
-use Rattle.wire.specs.declared.system_common.MaybeSystemCommon.{MaybeSystemCommon}
-use Rattle.wire.specs.declared.system_common.MaybeSystemCommon.TheVariants as g
 use Rattle.wire.specs.declared.system_common.CommonStatus.{CommonStatus}
 use Rattle.wire.specs.declared.system_common.CommonStatus.TheVariants as s
-use Rattle.wire.specs.declared.system_common.MaybeCommonStatus.{MaybeCommonStatus}
-use Rattle.wire.specs.declared.system_common.MaybeCommonStatus.TheVariants as o
 
 -- the status bytes of the messages that a record names: F1, F2, F3 and F6
-abbrev pub common_status : ℕ → MaybeCommonStatus
+abbrev pub common_status : ℕ → Option CommonStatus
 common_status b =
-    pick (eqb b 0xF1) (o.Some s.TimeCodeQuarterFrame)
-    (pick (eqb b 0xF2) (o.Some s.SongPosition)
-    (pick (eqb b 0xF3) (o.Some s.SongSelect)
-    (pick (eqb b 0xF6) (o.Some s.TuneRequest) o.None)))
+    pick (eqb b 0xF1) (Some s.TimeCodeQuarterFrame)
+    (pick (eqb b 0xF2) (Some s.SongPosition)
+    (pick (eqb b 0xF3) (Some s.SongSelect)
+    (pick (eqb b 0xF6) (Some s.TuneRequest) None)))
 
 -- the status byte of each kind
 abbrev pub common_status_byte : CommonStatus → ℕ
@@ -52,9 +48,9 @@ abbrev pub common_write : CommonStatus → ℕ → ℕ → Outcome (List ℕ)
 common_write s v room = unless (common_in_range (common s v)) 21 (v ∷ []) (with_room room (common_bytes (common s v)))
 
 -- what a status byte and its data mean; the data's top bits are ignored, and bytes that the message lacks
-abbrev pub common_message : ℕ → ℕ → ℕ → MaybeSystemCommon
+abbrev pub common_message : ℕ → ℕ → ℕ → Option SystemCommon
 common_message status first second =
-    pick (eqb status 0xF1) (g.Some (m.TimeCodeQuarterFrame (first % 128)))
-    (pick (eqb status 0xF2) (g.Some (m.SongPosition (first % 128 + 128 * (second % 128))))
-    (pick (eqb status 0xF3) (g.Some (m.SongSelect (first % 128)))
-    (pick (eqb status 0xF6) (g.Some m.TuneRequest) g.None)))
+    pick (eqb status 0xF1) (Some (m.TimeCodeQuarterFrame (first % 128)))
+    (pick (eqb status 0xF2) (Some (m.SongPosition (first % 128 + 128 * (second % 128))))
+    (pick (eqb status 0xF3) (Some (m.SongSelect (first % 128)))
+    (pick (eqb status 0xF6) (Some m.TuneRequest) None)))

@@ -3,10 +3,11 @@ ghost use Rattle.std.specs.Prelude.{◌≡◌, length};
 ghost use Rattle.refusal.specs.Outcome.{Writes};
 ghost use Rattle.wire.specs.RealTime.{realtime_byte, realtime_of, realtime_write};
 
-use refusal::Count;
+use refusal::Refusal;
 
-// The real-time messages that a record names.
-#[derive(Clone, Copy)]
+// The real-time messages that a record names. They are told by their status byte as CommonStatus is; no call asks for either, so a trait would serve
+// none.
+#[derive(Clone, Copy, Debug, PartialEq, Eq)]
 pub enum Realtime {
     Clock,
     Start,
@@ -16,24 +17,18 @@ pub enum Realtime {
     SystemReset,
 }
 
-#[derive(Drop)]
-pub enum MaybeRealtime {
-    Some(Realtime),
-    None,
-}
-
 impl Realtime {
-    pub fn from_status(status: u8) -> MaybeRealtime
+    pub fn from_status(status: u8) -> Option<Realtime>
         ensures { result ≡ realtime_of status }
     {
         match status {
-            0xF8 => MaybeRealtime::Some(Realtime::Clock),
-            0xFA => MaybeRealtime::Some(Realtime::Start),
-            0xFB => MaybeRealtime::Some(Realtime::Continue),
-            0xFC => MaybeRealtime::Some(Realtime::Stop),
-            0xFE => MaybeRealtime::Some(Realtime::ActiveSensing),
-            0xFF => MaybeRealtime::Some(Realtime::SystemReset),
-            _ => MaybeRealtime::None,
+            0xF8 => Some(Realtime::Clock),
+            0xFA => Some(Realtime::Start),
+            0xFB => Some(Realtime::Continue),
+            0xFC => Some(Realtime::Stop),
+            0xFE => Some(Realtime::ActiveSensing),
+            0xFF => Some(Realtime::SystemReset),
+            _ => None,
         }
     }
 
@@ -51,9 +46,9 @@ impl Realtime {
     }
 
     // Writes the byte. Refuses 14.
-    pub fn encode_into(self, out: &mut [u8]) -> Count
+    pub fn encode_into(self, out: &mut [u8]) -> Result<usize, Refusal>
         ensures { Writes (realtime_write self (length out.old)) result out.old out.new }
     {
-        crate::put(out, 1, self.to_status(), 0, 0)
+        refusal::put(&[self.to_status()], out)
     }
 }

@@ -4,10 +4,10 @@ ghost use Rattle.refusal.specs.Outcome.{Writes};
 ghost use Rattle.wire.specs.Status.{data_length};
 ghost use Rattle.wire.specs.SystemCommon.{common_status, common_status_byte, common_message, common_in_range, common, common_write};
 
-use refusal::{Count, Refusal};
+use refusal::Refusal;
 
 // The system common messages that a record names.
-#[derive(Clone, Copy)]
+#[derive(Clone, Copy, Debug, PartialEq, Eq)]
 pub enum SystemCommon {
     TimeCodeQuarterFrame(u8),
     SongPosition(u16),
@@ -15,31 +15,25 @@ pub enum SystemCommon {
     TuneRequest,
 }
 
-#[derive(Drop)]
-pub enum MaybeSystemCommon {
-    Some(SystemCommon),
-    None,
-}
-
 impl SystemCommon {
     // The message of a status byte and its data, as for channel messages.
-    pub fn from_bytes(status: u8, first: u8, second: u8) -> MaybeSystemCommon
+    pub fn from_bytes(status: u8, first: u8, second: u8) -> Option<SystemCommon>
         ensures { result ≡ common_message status first second }
     {
         let a = first % 128;
         let b = second % 128;
         match status {
-            0xF1 => MaybeSystemCommon::Some(SystemCommon::TimeCodeQuarterFrame(a)),
-            0xF2 => MaybeSystemCommon::Some(SystemCommon::SongPosition(crate::bend(a, b))),
-            0xF3 => MaybeSystemCommon::Some(SystemCommon::SongSelect(a)),
-            0xF6 => MaybeSystemCommon::Some(SystemCommon::TuneRequest),
-            _ => MaybeSystemCommon::None,
+            0xF1 => Some(SystemCommon::TimeCodeQuarterFrame(a)),
+            0xF2 => Some(SystemCommon::SongPosition(crate::bend(a, b))),
+            0xF3 => Some(SystemCommon::SongSelect(a)),
+            0xF6 => Some(SystemCommon::TuneRequest),
+            _ => None,
         }
     }
 }
 
 // Their status bytes: F1, F2, F3 and F6.
-#[derive(Clone, Copy)]
+#[derive(Clone, Copy, Debug, PartialEq, Eq)]
 pub enum CommonStatus {
     TimeCodeQuarterFrame,
     SongPosition,
@@ -47,22 +41,16 @@ pub enum CommonStatus {
     TuneRequest,
 }
 
-#[derive(Drop)]
-pub enum MaybeCommonStatus {
-    Some(CommonStatus),
-    None,
-}
-
 impl CommonStatus {
-    pub fn from_status(status: u8) -> MaybeCommonStatus
+    pub fn from_status(status: u8) -> Option<CommonStatus>
         ensures { result ≡ common_status status }
     {
         match status {
-            0xF1 => MaybeCommonStatus::Some(CommonStatus::TimeCodeQuarterFrame),
-            0xF2 => MaybeCommonStatus::Some(CommonStatus::SongPosition),
-            0xF3 => MaybeCommonStatus::Some(CommonStatus::SongSelect),
-            0xF6 => MaybeCommonStatus::Some(CommonStatus::TuneRequest),
-            _ => MaybeCommonStatus::None,
+            0xF1 => Some(CommonStatus::TimeCodeQuarterFrame),
+            0xF2 => Some(CommonStatus::SongPosition),
+            0xF3 => Some(CommonStatus::SongSelect),
+            0xF6 => Some(CommonStatus::TuneRequest),
+            _ => None,
         }
     }
 
@@ -94,28 +82,24 @@ impl CommonStatus {
         ensures { result ≡ 1 + data_length (common_status_byte self) }
     {
         match self {
-            CommonStatus::TimeCodeQuarterFrame => 2,
+            CommonStatus::TimeCodeQuarterFrame | CommonStatus::SongSelect => 2,
             CommonStatus::SongPosition => 3,
-            CommonStatus::SongSelect => 2,
             CommonStatus::TuneRequest => 1,
         }
     }
 
     // Writes the message with a value, status byte first. Refuses 21, tested before the value is narrowed, then 14.
-    pub fn encode_into(self, value: u16, out: &mut [u8]) -> Count
+    pub fn encode_into(self, value: u16, out: &mut [u8]) -> Result<usize, Refusal>
         ensures { Writes (common_write self value (length out.old)) result out.old out.new }
     {
         if !self.carries(value) {
-            return Count::Err(Refusal::ValueTooLarge(value));
+            return Err(Refusal::ValueTooLarge(value));
         }
-        let needed = self.encoded_len();
-        let status = self.to_status();
-        crate::put(
-            out,
-            needed,
-            status,
+        let bytes = [
+            self.to_status(),
             (value % 128) as u8,
             (value / 128 % 128) as u8,
-        )
+        ];
+        refusal::put(&bytes[..self.encoded_len()], out)
     }
 }

@@ -1,72 +1,36 @@
--- `data_len` meets its contract: its steps are the definition's, in the same order.
+-- Each range of status bytes takes what the definition's tests give for it.
+use Rattle.std.proofs.Common.{rules}
 use Rattle.wire.specs.Status.{data_length}
-use borrow.Author.Tests.{lt-ltb, le-ltb, eq-eqb, ne_eqb}
 use Rattle.wire.proofs.data_len.Goals as goal
 
-pub returns-then-status-lt128 : goal.returns-then-status-lt128
+pub returns-in-128-to-191 : goal.returns-in-128-to-191
 unfolding data_length
-returns-then-status-lt128 c = rw (lt-ltb _ _ c.if-status-lt128.true)
+returns-in-128-to-191 c = search rules
 
-pub returns-then-status-lt192 : goal.returns-then-status-lt192
+pub returns-in-192-to-223 : goal.returns-in-192-to-223
 unfolding data_length
-returns-then-status-lt192 c = rw (le-ltb _ _ c.if-status-lt128.false, lt-ltb _ _ c.if-status-lt192.true)
+returns-in-192-to-223 c = search rules
 
-pub returns-then-status-lt224 : goal.returns-then-status-lt224
+pub returns-in-224-to-239 : goal.returns-in-224-to-239
 unfolding data_length
-returns-then-status-lt224 c = rw (le-ltb _ _ c.if-status-lt128.false, le-ltb _ _ c.if-status-lt192.false, lt-ltb _ _ c.if-status-lt224.true)
+returns-in-224-to-239 c = search rules
 
-pub returns-then-status-lt240 : goal.returns-then-status-lt240
+pub returns-in-241 : goal.returns-in-241
 unfolding data_length
-returns-then-status-lt240 c =
-    rw (le-ltb _ _ c.if-status-lt128.false, le-ltb _ _ c.if-status-lt192.false, le-ltb _ _ c.if-status-lt224.false, lt-ltb _ _ c.if-status-lt240.true)
+returns-in-241 c = search rules
 
-pub returns-then-status-eq241 : goal.returns-then-status-eq241
+pub returns-in-242 : goal.returns-in-242
 unfolding data_length
-returns-then-status-eq241 c =
-    rw (
-      le-ltb _ _ c.if-status-lt128.false,
-      le-ltb _ _ c.if-status-lt192.false,
-      le-ltb _ _ c.if-status-lt224.false,
-      le-ltb _ _ c.if-status-lt240.false,
-      eq-eqb _ _ c.if-status-eq241.true,
-    )
+returns-in-242 c = search rules
 
-pub returns-then-status-eq242 : goal.returns-then-status-eq242
+pub returns-in-243 : goal.returns-in-243
 unfolding data_length
-returns-then-status-eq242 c =
-    rw (
-      le-ltb _ _ c.if-status-lt128.false,
-      le-ltb _ _ c.if-status-lt192.false,
-      le-ltb _ _ c.if-status-lt224.false,
-      le-ltb _ _ c.if-status-lt240.false,
-      ne_eqb _ _ c.if-status-eq241.false,
-      eq-eqb _ _ c.if-status-eq242.true,
-    )
+returns-in-243 c = search rules
 
-pub returns-then-status-eq243 : goal.returns-then-status-eq243
+pub returns-in_default : goal.returns-in_default
 unfolding data_length
-returns-then-status-eq243 c =
-    rw (
-      le-ltb _ _ c.if-status-lt128.false,
-      le-ltb _ _ c.if-status-lt192.false,
-      le-ltb _ _ c.if-status-lt224.false,
-      le-ltb _ _ c.if-status-lt240.false,
-      ne_eqb _ _ c.if-status-eq241.false,
-      ne_eqb _ _
-          c.if-status-eq242.false,
-      eq-eqb _ _ c.if-status-eq243.true,
-    )
+returns-in_default c = search rules
 
-pub returns : goal.returns
+pub returns-in_default-2 : goal.returns-in_default-2
 unfolding data_length
-returns c =
-    rw (
-      le-ltb _ _ c.if-status-lt128.false,
-      le-ltb _ _ c.if-status-lt192.false,
-      le-ltb _ _ c.if-status-lt224.false,
-      le-ltb _ _ c.if-status-lt240.false,
-      ne_eqb _ _ c.if-status-eq241.false,
-      ne_eqb _ _
-          c.if-status-eq242.false,
-      ne_eqb _ _ c.if-status-eq243.false,
-    )
+returns-in_default-2 c = search rules

@@ -1,19 +1,30 @@
 -- `CommonStatus::encode_into` meets its contract: 21 first; then it hands the message's own bytes to `put`.
 use Rattle.refusal.proofs.Written.{went_on, same_bytes}
-use Rattle.wire.proofs.system_common.Bytes.{common_bytes_lem}
+use Rattle.wire.proofs.system_common.Bytes.{common_bytes_lem, common_length}
 use Rattle.wire.specs.SystemCommon.{common_bytes, common, common_in_range}
 use lib.ListN.{take}
-use Prim.Native.Nat.{◌/◌, ◌%◌}
+use lib.Seq.{length-take-le}
+use native.Mathlib.Omega.{arith}
+use Prim.Native.Nat.{◌/◌, ◌%◌, ◌≤◌}
 use mathlib.Core.List.{[], ◌∷◌}
 use mathlib.Core.Bool.{true}
 use mathlib.Core.Path.{◌≡◌, sym, ◌∙◌}
 use Rattle.wire.proofs.system_common.CommonStatus.encode_into.Goals as goal
 
+pub slice_bounds-bytes-end : goal.slice_bounds-bytes-end
+slice_bounds-bytes-end c = let below = common_length c.args.self in omega (arith, c.encoded_len.ensures)
+
+pub slice_bounds-put-end : goal.slice_bounds-put-end
+slice_bounds-put-end c =
+    let below = common_length c.args.self in
+    let three : c.encoded_len.result ≤ 3 = omega (arith, c.encoded_len.ensures) in
+    sym (length-take-le c.encoded_len.result _ three)
+
 pub returns : goal.returns
 returns c =
     let a = c.args in
-    let s = c.to_status-status in
-    let l = c.encoded_len-needed in
+    let s = c.to_status in
+    let l = c.encoded_len in
     let p = c.put in
     let fits : common_in_range (common a.self a.value) ≡ true = sym c.carries.ensures ∙ c.if-not-carries.false in
     let same : take l.result (s.result ∷ a.value % 128 ∷ a.value / 128 % 128 ∷ []) ≡ common_bytes (common a.self a.value) =
