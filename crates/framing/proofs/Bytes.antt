@@ -1,14 +1,14 @@
--- What a walk over bytes has still to look at is the rest of the list, so each step leaves the answer as it is or decides it.
-use mathlib.Core.Path.{◌≡◌, refl, ap, ap₂, sym, ◌∙◌}
-use mathlib.Core.Bool.{Bool, true, false, ◌&&◌}
+-- The first high byte stands right behind the run of data bytes, and lists that compare as the same are the same.
+use Rattle.std.specs.Prelude.{None, Option, Some}
+use mathlib.Core.Path.{◌≡◌, refl, ap₂, sym, ◌∙◌}
+use mathlib.Core.Bool.{Bool, true, false}
 use mathlib.Core.List.{List, [], ◌∷◌, ◌++◌}
-use Prim.Native.Nat.{ℕ, suc, ◌+◌, ◌≤◌, ◌<◌}
-use native.Mathlib.Numerals.{add-one}
+use Prim.Native.Nat.{ℕ, ◌≤◌, ◌<◌}
 use native.Mathlib.Omega.{arith}
 use lib.Dec.{ltb, eqb}
-use lib.ListN.{length, get_or, drop, drop_of_length-le}
-use lib.Seq.{drop-cons, ext_get_or}
-use borrow.Author.Tests.{lt-ltb, le-ltb, eq-eqb, ne_eqb, eqb-true}
+use lib.ListN.{length, get_or}
+use lib.Seq.{ext_get_or}
+use borrow.Author.Tests.{lt-ltb, le-ltb, eqb-true}
 use Rattle.laws.specs.Choice.{pick}
 use Rattle.laws.specs.Tabulate.{tab}
 use Rattle.laws.proofs.Tabulate.{length_tab, get_or_tab}
@@ -17,60 +17,37 @@ use Rattle.octets.specs.quick.Data.{data_run}
 use Rattle.octets.proofs.data_bytes.Runs.{run_none, by_byte}
 use Rattle.refusal.specs.Outcome.{Outcome, gives}
 use Rattle.refusal.proofs.Given.{given_not_refused}
-use Rattle.framing.specs.declared.MaybeByte.{MaybeByte}
-use Rattle.framing.specs.declared.MaybeByte.TheVariants as m
 use Rattle.framing.specs.Framing.{first_high, unless_high, same_bytes}
 
 -- the first high byte stands right behind the run of data bytes
-pub high_behind : (l : List ℕ) → data_run l < length l → first_high l ≡ m.Some (get_or l (data_run l) 0)
+pub high_behind : (l : List ℕ) → data_run l < length l → first_high l ≡ Some (get_or l (data_run l) 0)
 high_behind [] h = absurd (omega (arith, run_none, h))
 high_behind (b ∷ l) h =
     by_byte b l (λ low e. rw (e, lt-ltb b 0x80 low) (high_behind l (omega (arith, e, h)))) (λ high e. rw (e, le-ltb b 0x80 high))
 
-pub high_nowhere : (l : List ℕ) → length l ≤ data_run l → first_high l ≡ m.None
+pub high_nowhere : (l : List ℕ) → length l ≤ data_run l → first_high l ≡ None
 high_nowhere [] h = refl
 high_nowhere (b ∷ l) h =
     by_byte b l (λ low e. rw (lt-ltb b 0x80 low) (high_nowhere l (omega (arith, e, h)))) (λ _ e. absurd (omega (arith, e, h)))
 
 -- the first high byte of two lists, one behind the other, is the second's where the first has none
-pub high_append : (l k : List ℕ) → first_high l ≡ m.None → first_high (l ++ k) ≡ first_high k
+pub high_append : (l k : List ℕ) → first_high l ≡ None → first_high (l ++ k) ≡ first_high k
 high_append [] k h = refl
 high_append (b ∷ l) k h = go (ltb b 0x80) h (high_append l k)
   where
-    go : (t : Bool) → pick t (first_high l) (m.Some b) ≡ m.None → (first_high l ≡ m.None → first_high (l ++ k) ≡ first_high k)
-        → pick t (first_high (l ++ k)) (m.Some b) ≡ first_high k
+    go : (t : Bool) → pick t (first_high l) (Some b) ≡ None → (first_high l ≡ None → first_high (l ++ k) ≡ first_high k)
+        → pick t (first_high (l ++ k)) (Some b) ≡ first_high k
     go true g rest = rest g
     go false g rest = let z : ◌≡◌ {A = ℕ} 0 1 = cc in absurd (omega arith)
 
-pub high_first : (l k : List ℕ) (b : ℕ) → first_high l ≡ m.Some b → first_high (l ++ k) ≡ m.Some b
+pub high_first : (l k : List ℕ) (b : ℕ) → first_high l ≡ Some b → first_high (l ++ k) ≡ Some b
 high_first [] k b h = let z : ◌≡◌ {A = ℕ} 0 1 = cc in absurd (omega arith)
 high_first (x ∷ l) k b h = go (ltb x 0x80) h (high_first l k b)
   where
-    go : (t : Bool) → pick t (first_high l) (m.Some x) ≡ m.Some b → (first_high l ≡ m.Some b → first_high (l ++ k) ≡ m.Some b)
-        → pick t (first_high (l ++ k)) (m.Some x) ≡ m.Some b
+    go : (t : Bool) → pick t (first_high l) (Some x) ≡ Some b → (first_high l ≡ Some b → first_high (l ++ k) ≡ Some b)
+        → pick t (first_high (l ++ k)) (Some x) ≡ Some b
     go true g rest = rest g
     go false g rest = g
-
--- two lists that differ at a place are not the same from there on
-pub differ_here : (l k : List ℕ) (i : ℕ) → i < length l → i < length k → (get_or l i 0 ≡ get_or k i 0 → ⊥) → same_bytes (drop i l) (drop i k) ≡ false
-differ_here l k i h g n = rw (drop-cons l i 0 h, drop-cons k i 0 g, ne_eqb (get_or l i 0) (get_or k i 0) n)
-
-pub same_so_far : (l k : List ℕ) (i : ℕ) → i < length l → i < length k → get_or l i 0 ≡ get_or k i 0
-    → same_bytes (drop i l) (drop i k) ≡ same_bytes (drop (i + 1) l) (drop (i + 1) k)
-same_so_far l k i h g e = rw (add-one i, drop-cons l i 0 h, drop-cons k i 0 g, eq-eqb (get_or l i 0) (get_or k i 0) e)
-
-pub same_at_end : (l k : List ℕ) (i : ℕ) → length l ≤ i → length k ≤ i → same_bytes (drop i l) (drop i k) ≡ true
-same_at_end l k i h g = rw (drop_of_length-le l {i = i} h, drop_of_length-le k {i = i} g)
-
-pub differ_in_length : (l k : List ℕ) → (length l ≡ length k → ⊥) → same_bytes l k ≡ false
-differ_in_length [] [] n = absurd (n refl)
-differ_in_length [] (y ∷ ys) n = refl
-differ_in_length (x ∷ xs) [] n = refl
-differ_in_length (x ∷ xs) (y ∷ ys) n = go (eqb x y) (differ_in_length xs ys (λ e. n (ap suc e)))
-  where
-    go : (t : Bool) → same_bytes xs ys ≡ false → (t && same_bytes xs ys) ≡ false
-    go true h = h
-    go false h = refl
 
 -- lists that compare as the same are the same
 pub same_is : (l k : List ℕ) → same_bytes l k ≡ true → l ≡ k
@@ -79,25 +56,21 @@ same_is [] (y ∷ ys) h = let z : ◌≡◌ {A = ℕ} 0 1 = cc in absurd (omega 
 same_is (x ∷ xs) [] h = let z : ◌≡◌ {A = ℕ} 0 1 = cc in absurd (omega arith)
 same_is (x ∷ xs) (y ∷ ys) h = ap₂ (λ (z : ℕ) (zs : List ℕ). z ∷ zs) (eqb-true x y (both (eqb x y) (same_bytes xs ys) h).0) (same_is xs ys (both (eqb x y) (same_bytes xs ys) h).1)
 
-pub is_same : (l : List ℕ) → same_bytes l l ≡ true
-is_same [] = refl
-is_same (x ∷ xs) = rw (eq-eqb x x refl) (is_same xs)
-
 -- a list spelled out byte by byte
 pub spelled : (l : List ℕ) (n : ℕ) → length l ≡ n → l ≡ tab (λ i. get_or l i 0) n
 spelled l n e =
     ext_get_or 0 l (tab (λ i. get_or l i 0) n) (e ∙ sym (length_tab (λ i. get_or l i 0) n)) (λ i h. sym (get_or_tab (λ k. get_or l k 0) n i 0 (omega arith)))
 
 -- what was given had no high byte
-pub no_high : {A : Type 0} (high : MaybeByte) (next : Outcome A) (a : A) → unless_high high next ≡ gives a → (high ≡ m.None) × (next ≡ gives a)
-no_high m.None next a e = (refl, e)
-no_high (m.Some b) next a e = absurd (given_not_refused a 2 (b ∷ []) e)
+pub no_high : {A : Type 0} (high : Option ℕ) (next : Outcome A) (a : A) → unless_high high next ≡ gives a → (high ≡ None) × (next ≡ gives a)
+no_high None next a e = (refl, e)
+no_high (Some b) next a e = absurd (given_not_refused a 2 (b ∷ []) e)
 
 -- no high byte in two lists: none in the second
-pub high_none_behind : (l k : List ℕ) → first_high (l ++ k) ≡ m.None → first_high k ≡ m.None
+pub high_none_behind : (l k : List ℕ) → first_high (l ++ k) ≡ None → first_high k ≡ None
 high_none_behind [] k h = h
 high_none_behind (b ∷ l) k h = go (ltb b 0x80) h (high_none_behind l k)
   where
-    go : (t : Bool) → pick t (first_high (l ++ k)) (m.Some b) ≡ m.None → (first_high (l ++ k) ≡ m.None → first_high k ≡ m.None) → first_high k ≡ m.None
+    go : (t : Bool) → pick t (first_high (l ++ k)) (Some b) ≡ None → (first_high (l ++ k) ≡ None → first_high k ≡ None) → first_high k ≡ None
     go true g rest = rest g
     go false g rest = let z : ◌≡◌ {A = ℕ} 0 1 = cc in absurd (omega arith)

@@ -1,9 +1,7 @@
 -- The first two rules of every frame, each a definition of its own, and the bytes of maker and model.
-use Rattle.std.specs.Prelude.{Bool, true, false, ◌&&◌, List, [], ◌∷◌, ℕ, ◌-◌, ltb, leb, eqb, length, get_or, take, drop}
+use Rattle.std.specs.Prelude.{Bool, true, false, ◌&&◌, List, [], ◌∷◌, ℕ, ◌-◌, ltb, leb, eqb, length, get_or, take, drop, None, Option, Some}
 use Rattle.laws.specs.Choice.{pick}
 use Rattle.refusal.specs.Outcome.{Outcome, refused, unless}
-use Rattle.framing.specs.declared.MaybeByte.{MaybeByte}
-use Rattle.framing.specs.declared.MaybeByte.TheVariants as m
 
 -- broken by "under two bytes, or F0, F7 not at the ends"
 abbrev pub framed : List ℕ → Bool
@@ -18,14 +16,14 @@ abbrev pub body : List ℕ → List ℕ
 body bytes = take (length bytes - 2) (drop 1 bytes)
 
 -- "a body byte 80 or above (2, the first such)"
-abbrev pub first_high : List ℕ → MaybeByte
-first_high [] = m.None
-first_high (b ∷ bs) = pick (ltb b 0x80) (first_high bs) (m.Some b)
+abbrev pub first_high : List ℕ → Option ℕ
+first_high [] = None
+first_high (b ∷ bs) = pick (ltb b 0x80) (first_high bs) (Some b)
 
 -- a byte that was found is refused
-abbrev pub unless_high : {A : Type 0} → MaybeByte → Outcome A → Outcome A
-unless_high m.None next = next
-unless_high (m.Some b) next = refused 2 (b ∷ [])
+abbrev pub unless_high : {A : Type 0} → Option ℕ → Outcome A → Outcome A
+unless_high None next = next
+unless_high (Some b) next = refused 2 (b ∷ [])
 
 -- 2, with the byte
 abbrev pub when_seven_bit : {A : Type 0} → List ℕ → Outcome A → Outcome A

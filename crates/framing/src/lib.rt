@@ -1,11 +1,13 @@
 // What frames and identity messages share: F0 and F7 at the ends, bytes below 80 between them, maker and model.
 #![tactic(auto)]
 
-ghost use Rattle.std.specs.Prelude.{◌≡◌};
-ghost use Rattle.ids.specs.Device.{device_in_range};
+ghost use Rattle.std.specs.Prelude.{◌≡◌, [], ◌∷◌};
+ghost use Rattle.refusal.specs.Outcome.{answered, gives, unless};
+ghost use Rattle.ids.specs.Device.{device_byte, device_in_range};
 ghost use Rattle.framing.specs.Framing.{framed, first_high, same_bytes};
 
 use ids::DeviceId;
+use refusal::{OfByte, Refusal};
 
 pub const SYSEX_START: u8 = 0xF0;
 
@@ -22,59 +24,30 @@ pub const MAKER_AND_MODEL: [u8; 4] = [
 // From here on looking at all bytes at once is the faster way to find no high one.
 const LONG: usize = 32;
 
-// A byte, or none.
-#[derive(Drop)]
-pub enum MaybeByte {
-    Some(u8),
-    None,
-}
-
 // Do F0 and F7 stand at the ends of at least two bytes?
 pub fn is_framed(bytes: &[u8]) -> bool
     ensures { result ≡ framed bytes.now }
 {
     let len = bytes.len();
-    if len < 2 {
-        return false;
-    }
-    if bytes[0] != SYSEX_START {
-        return false;
-    }
-    bytes[len - 1] == SYSEX_END
+    2 <= len && bytes[0] == SYSEX_START && bytes[len - 1] == SYSEX_END
 }
 
 // The first byte of 80 or above.
-pub fn first_high(bytes: &[u8]) -> MaybeByte
+#[tactic(auto, using(crate::proofs::Bytes::high_behind, crate::proofs::Bytes::high_nowhere))]
+pub fn first_high(bytes: &[u8]) -> Option<u8>
     ensures { result ≡ first_high bytes.now }
 {
-    if LONG <= bytes.len() {
-        if octets::data_bytes::all_data(bytes) {
-            return MaybeByte::None;
-        }
+    if LONG <= bytes.len() && octets::data_bytes::all_data(bytes) {
+        return None;
     }
-    let run = octets::data_bytes::data_run(bytes);
-    if run < bytes.len() {
-        let byte = bytes[run];
-        return MaybeByte::Some(byte);
-    }
-    MaybeByte::None
+    bytes.get(octets::data_bytes::data_run(bytes)).copied()
 }
 
 // Are the two the same bytes?
 pub fn same_bytes(bytes: &[u8], others: &[u8]) -> bool
     ensures { result ≡ same_bytes bytes.now others.now }
 {
-    if bytes.len() != others.len() {
-        return false;
-    }
-    let mut i: usize = 0;
-    while i < bytes.len() {
-        if bytes[i] != others[i] {
-            return false;
-        }
-        i += 1;
-    }
-    true
+    bytes == others
 }
 
 // Can the device's byte stand in a frame? A unit above 0F can be made by hand, and has none.
@@ -84,5 +57,17 @@ pub fn device_in_range(device: DeviceId) -> bool
     match device {
         DeviceId::Unit(id) => id < 16,
         DeviceId::Broadcast => true,
+    }
+}
+
+// The device's byte for a frame. Refuses 5 with the byte of a unit that has none.
+pub fn device_byte(device: DeviceId) -> Result<u8, Refusal>
+    ensures { answered result ≡ unless (device_in_range device) 5 (device_byte device ∷ []) (gives (device_byte device)) }
+{
+    let byte = device.to_byte();
+    if device_in_range(device) {
+        Ok(byte)
+    } else {
+        Err(Refusal::InvalidDeviceId(byte))
     }
 }

@@ -12,12 +12,12 @@ pub mod words;
 pub fn flag_of(b: bool) -> u8
     ensures { result ≡ flag b }
 {
-    if b { 1 } else { 0 }
+    u8::from(b)
 }
 
 // The byte at a place, and 0 behind the last.
 pub fn byte_at(bytes: &[u8], at: usize) -> u8
     ensures { result ≡ get_or bytes.now at 0 }
 {
-    if at < bytes.len() { bytes[at] } else { 0 }
+    bytes.get(at).copied().unwrap_or(0)
 }

@@ -6,9 +6,6 @@ use native.Mathlib.Omega.{arith}
 use lib.Bits.{bit_and, bit_or, and_mask, or_shifted_r}
 use lib.Pow.{shl_exact}
 
-pub seven_bits : (b : ℕ) → bit_and b 127 ≡ b % 128
-seven_bits b = and_mask b 7
-
 -- a top bit shifted to place i, above what stands below
 pub top_bit_in : (high b i : ℕ) → b < 256 → i < 7 → high < 2 ^ i → bit_or high ((b / 2 ^ 7 * 2 ^ i) % 2 ^ 8) ≡ high + b / 128 * 2 ^ i
 top_bit_in high b i byte place below =
@@ -20,5 +17,5 @@ pub top_bit_out : (d high i : ℕ) → bit_or (bit_and d 127) ((bit_and (high / 
 top_bit_out d high i =
     let bit : high / 2 ^ i % 2 ^ 1 < 2 ^ 1 = omega arith in
     let low : d % 128 < 2 ^ 7 = omega arith in
-    rw (seven_bits d, and_mask (high / 2 ^ i) 1, shl_exact {a = high / 2 ^ i % 2 ^ 1} 1 7 8 bit (omega arith), or_shifted_r (high / 2 ^ i % 2 ^ 1) 7 (d % 128) low)
+    rw (and_mask d 7, and_mask (high / 2 ^ i) 1, shl_exact {a = high / 2 ^ i % 2 ^ 1} 1 7 8 bit (omega arith), or_shifted_r (high / 2 ^ i % 2 ^ 1) 7 (d % 128) low)
     (omega arith)

@@ -3,3 +3,4 @@ pub mod Groups
 pub mod Lengths
 pub mod RoundTrip
 pub mod Rows
+mod Room

@@ -4,13 +4,13 @@
 #![tactic(auto)]
 
 ghost use Rattle.std.specs.Prelude.{◌≡◌};
-ghost use Rattle.refusal.specs.Outcome.{counted};
+ghost use Rattle.refusal.specs.Outcome.{answered};
 ghost use Rattle.packed.specs.Packed.{packed_length_of, unpacked_length_of};
 
 pub mod packing;
 pub mod unpacking;
 
-use refusal::{Count, Refusal};
+use refusal::Refusal;
 
 // Raw bytes in a group, and the bytes that it takes on the wire.
 pub const RAW_GROUP: usize = 7;
@@ -18,29 +18,23 @@ pub const RAW_GROUP: usize = 7;
 pub const PACKED_GROUP: usize = 8;
 
 // How many bytes pack_into writes for so many raw bytes; 22 where that is more than a usize holds.
-pub fn packed_len(raw_len: usize) -> Count
-    ensures { counted result ≡ packed_length_of raw_len }
+pub fn packed_len(raw_len: usize) -> Result<usize, Refusal>
+    ensures { answered result ≡ packed_length_of raw_len }
 {
-    let whole = raw_len / RAW_GROUP;
-    let rest = raw_len % RAW_GROUP;
-    let groups = whole + (rest + 6) / RAW_GROUP;
-    if groups < 0x2000_0000_0000_0000 {
-        return Count::Ok(PACKED_GROUP * groups);
-    }
-    Count::Err(Refusal::LengthOverflow)
+    raw_len
+        .div_ceil(RAW_GROUP)
+        .checked_mul(PACKED_GROUP)
+        .ok_or(Refusal::LengthOverflow)
 }
 
 // How many raw bytes a packed run of so many bytes holds; 13 where its last group has no data byte.
-pub fn unpacked_len(packed_len: usize) -> Count
-    ensures { counted result ≡ unpacked_length_of packed_len }
+pub fn unpacked_len(packed_len: usize) -> Result<usize, Refusal>
+    ensures { answered result ≡ unpacked_length_of packed_len }
 {
     let whole = packed_len / PACKED_GROUP;
     let rest = packed_len % PACKED_GROUP;
     if rest == 1 {
-        return Count::Err(Refusal::PackedRunLength(packed_len));
+        return Err(Refusal::PackedRunLength(packed_len));
     }
-    if rest == 0 {
-        return Count::Ok(RAW_GROUP * whole);
-    }
-    Count::Ok(RAW_GROUP * whole + (rest - 1))
+    Ok(RAW_GROUP * whole + rest.saturating_sub(1))
 }

@@ -6,7 +6,7 @@ ghost use Rattle.refusal.specs.Outcome.{Writes};
 ghost use Rattle.packed.specs.Packed.{raw_byte, unpacked_byte, unpack_write};
 
 use crate::{PACKED_GROUP, RAW_GROUP};
-use refusal::{Count, Refusal};
+use refusal::Refusal;
 
 // A data byte's seven bits under bit i of the top bits.
 fn top_bit_back(byte: u8, high: u8, i: usize) -> u8
@@ -22,10 +22,8 @@ fn unpack_group(run: &[u8], at: usize, count: usize, out: &mut [u8], to: usize)
     ensures { out.new ≡ window out.old to (tab (raw_byte run.now at) count) }
 {
     let high = run[at];
-    let mut i: usize = 0;
-    while i < count {
+    for i in 0..count {
         out[to + i] = top_bit_back(run[at + 1 + i], high, i);
-        i += 1;
     }
 }
 
@@ -34,36 +32,27 @@ fn unpack_groups(run: &[u8], whole: usize, out: &mut [u8])
     requires { (8 * whole ≤ length run.now) × (7 * whole ≤ length out.old) }
     ensures { out.new ≡ window out.old 0 (tab (unpacked_byte run.now) (7 * whole)) }
 {
-    let mut g: usize = 0;
-    while g < whole {
+    for g in 0..whole {
         unpack_group(run, PACKED_GROUP * g, RAW_GROUP, out, RAW_GROUP * g);
-        g += 1;
     }
 }
 
 // Unpacks run into out and answers how many raw bytes it wrote. Refuses 13, then 14.
-pub fn unpack_into(run: &[u8], out: &mut [u8]) -> Count
+pub fn unpack_into(run: &[u8], out: &mut [u8]) -> Result<usize, Refusal>
     ensures { Writes (unpack_write run.now (length out.old)) result out.old out.new }
 {
-    match crate::unpacked_len(run.len()) {
-        Count::Err(e) => Count::Err(e),
-        Count::Ok(needed) => {
-            let available = out.len();
-            if available < needed {
-                return Count::Err(Refusal::BufferTooSmall { needed, available });
-            }
-            let whole = run.len() / PACKED_GROUP;
-            unpack_groups(run, whole, out);
-            if RAW_GROUP * whole < needed {
-                unpack_group(
-                    run,
-                    PACKED_GROUP * whole,
-                    needed - RAW_GROUP * whole,
-                    out,
-                    RAW_GROUP * whole,
-                );
-            }
-            Count::Ok(needed)
-        }
+    let needed = crate::unpacked_len(run.len())?;
+    refusal::room(needed, out.len())?;
+    let whole = run.len() / PACKED_GROUP;
+    unpack_groups(run, whole, out);
+    if RAW_GROUP * whole < needed {
+        unpack_group(
+            run,
+            PACKED_GROUP * whole,
+            needed - RAW_GROUP * whole,
+            out,
+            RAW_GROUP * whole,
+        );
     }
+    Ok(needed)
 }

@@ -96,8 +96,12 @@ seen_more l i all h e = split (ltb all 0x80) low high
         le-ltb (bit_or all b) 0x80 (omega (arith, or_left all b, ltb-false all 0x80 t))
         ∙ sym (lt-leb (i + 1) (data_run l) (omega (arith, leb-false i (data_run l) (sym e ∙ t))))
 
+-- the mask leaves of a word that was read its bytes' top bits
+pub tops_read : (l : List ℕ) (i w : ℕ) → ((k : ℕ) → get_or l k 0 < 256) → w ≡ word_at l i → bit_and w 0x8080_8080_8080_8080 ≡ top_bits_at l i
+tops_read l i w bytes e =
+    ap (λ (x : ℕ). bit_and x 0x8080_8080_8080_8080) e
+    ∙ tops_left _ _ _ _ _ _ _ _ (bytes i) (bytes (i + 1)) (bytes (i + 2)) (bytes (i + 3)) (bytes (i + 4)) (bytes (i + 5)) (bytes (i + 6)) (bytes (i + 7))
+
 -- eight bytes whose word has no top bit have none
 pub no_tops : (l : List ℕ) (i w : ℕ) → ((k : ℕ) → get_or l k 0 < 256) → w ≡ word_at l i → bit_and w 0x8080_8080_8080_8080 ≡ 0 → top_bits_at l i ≡ 0
-no_tops l i w bytes e z =
-    sym (tops_left _ _ _ _ _ _ _ _ (bytes i) (bytes (i + 1)) (bytes (i + 2)) (bytes (i + 3)) (bytes (i + 4)) (bytes (i + 5)) (bytes (i + 6)) (bytes (i + 7)))
-    ∙ ap (λ (x : ℕ). bit_and x 0x8080_8080_8080_8080) (sym e) ∙ z
+no_tops l i w bytes e z = sym (tops_read l i w bytes e) ∙ z

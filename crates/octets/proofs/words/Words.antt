@@ -1,11 +1,13 @@
 -- A word's bytes are read back from it, so a word that was read and is stored is its eight bytes stored.
-use mathlib.Core.Path.{◌≡◌, ap, ◌∙◌}
-use mathlib.Core.List.{List, [], ◌∷◌}
+use mathlib.Core.Path.{◌≡◌, ap, sym, ◌∙◌}
+use mathlib.Core.List.{List, [], ◌∷◌, ◌++◌, append_assoc}
 use Prim.Native.Nat.{ℕ, zero, suc, ◌+◌, ◌/◌, ◌%◌, ◌≤◌, ◌<◌}
 use native.Mathlib.Numerals.{unary_clauses}
 use native.Mathlib.Omega.{arith}
-use lib.ListN.{length, get_or, set}
-use lib.Seq.{sets, sets-eq}
+use lib.ListN.{length, get_or, take, drop, set}
+use lib.Seq.{sets, sets-eq, drop-drop}
+use Rattle.std.specs.Int.{w64, to_le_bytes}
+use borrow.Rule.Slice.PartMut.{put_mid}
 use Rattle.laws.specs.Tabulate.{tab}
 use Rattle.laws.specs.Window.{window}
 use Rattle.octets.specs.quick.Words.{word, word_at, put_word, octet}
@@ -84,6 +86,18 @@ in_a_row : (l : List ℕ) (at a b c d e f g h : ℕ)
     → set (set (set (set (set (set (set (set l at a) (at + 1) b) (at + 2) c) (at + 3) d) (at + 4) e) (at + 5) f) (at + 6) g) (at + 7) h
     ≡ sets l at (a ∷ b ∷ c ∷ d ∷ e ∷ f ∷ g ∷ h ∷ [])
 in_a_row l at a b c d e f g h = simp unary_clauses
+
+-- a stretch in the place of as many elements is that many stores
+mid_stored : (l new : List ℕ) (at k : ℕ) → k ≡ length new → at + length new ≤ length l → put_mid at k l new ≡ sets l at new
+mid_stored l new at k e h =
+    ap (λ (behind : List ℕ). take at l ++ (new ++ behind)) (drop-drop k at l ∙ ap (λ (m : ℕ). drop (at + m) l) e)
+    ∙ sym (sets-eq new l at h ∙ append_assoc (take at l) new (drop (at + length new) l))
+
+-- the library's bytes of a number, in the place of eight, are the number stored
+pub word_put : (w : ℕ) (l new : List ℕ) (at k : ℕ) → k ≡ 8 → at + 8 ≤ length l → new ≡ to_le_bytes w64 w → put_mid at k l new ≡ put_word w l at
+word_put w l new at k e h n =
+    let eight : length new ≡ 8 = ap length n in
+    mid_stored l new at k (e ∙ sym eight) (omega (arith, h, eight)) ∙ ap (sets l at) n ∙ sym (in_a_row l at _ _ _ _ _ _ _ _)
 
 -- a word stored replaces eight bytes by its own
 pub word_window : (w : ℕ) (l : List ℕ) (at : ℕ) → at + 8 ≤ length l → put_word w l at ≡ window l at (tab (octet w) 8)

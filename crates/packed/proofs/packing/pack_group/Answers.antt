@@ -19,4 +19,4 @@ loop-i-preserved c = let a = c.args in
 pub returns : goal.returns
 returns c = let a = c.args in
     let l = c.loop-i in
-    packing_done a.raw.now a.from a.out.now a.at l.out l.high l.i l.invariant c.requires.1 c.loop-i-test.false
+    packing_done a.raw.now a.from a.out.now a.at l.out l.high l.i l.invariant c.requires.1 (omega arith)

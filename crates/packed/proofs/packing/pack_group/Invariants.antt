@@ -1,9 +1,5 @@
 use Rattle.packed.proofs.Groups.{Packing}
-use Prim.Native.Nat.{◌-◌}
 use Rattle.packed.proofs.packing.pack_group.Given as goal
 
 abbrev pub invariant-loop-i : goal.invariant-loop-i
 invariant-loop-i l = Packing l.raw l.from l.initial.out l.at l.out l.high l.i
-
-abbrev pub decreases-loop-i : goal.decreases-loop-i
-decreases-loop-i l = 7 - l.i

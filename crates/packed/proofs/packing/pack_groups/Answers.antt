@@ -9,5 +9,5 @@ pub loop-g-preserved : goal.loop-g-preserved
 loop-g-preserved c = let a = c.args in
     let l = c.loop-g in
     let p = c.pack_group in
-    filled_more (packed_byte a.raw.now) 8 a.groups a.out.now l.out _ l.g (group_byte a.raw.now (7 * l.g)) l.invariant
-    c.loop-g-test.true p.auto.out p.ensures (packed_more a.raw.now a.out.now l.g (omega arith))
+    filled_more (packed_byte a.raw.now) 8 a.out.now l.out _ l.g (group_byte a.raw.now (7 * l.g)) l.invariant p.ensures
+    (packed_more a.raw.now a.out.now l.g (omega arith))

@@ -9,5 +9,5 @@ pub loop-g-preserved : goal.loop-g-preserved
 loop-g-preserved c = let a = c.args in
     let l = c.loop-g in
     let p = c.unpack_group in
-    filled_more (unpacked_byte a.run.now) 7 a.whole a.out.now l.out _ l.g (raw_byte a.run.now (8 * l.g)) l.invariant
-    c.loop-g-test.true p.auto.out p.ensures (unpacked_more a.run.now a.out.now l.g 7 (omega arith) (omega arith))
+    filled_more (unpacked_byte a.run.now) 7 a.out.now l.out _ l.g (raw_byte a.run.now (8 * l.g)) l.invariant p.ensures
+    (unpacked_more a.run.now a.out.now l.g 7 (omega arith) (omega arith))
