@@ -1,18 +1,17 @@
 -- The call of `Decoder::feed` is the decoder's call, because its contract says so: so whatever holds of the definition's calls holds of the code's.
+use Rattle.std.specs.Prelude.{Err, Ok, Result}
 use mathlib.Core.Path.{◌≡◌, refl, ◌∙◌, ap, ap₂, subst}
 use mathlib.Core.Bool.{true}
 use mathlib.Core.List.{List, []}
 use Prim.Native.Nat.{ℕ, ◌≤◌}
 use lib.ListN.{length, drop}
 use Rattle.laws.proofs.Tests.{split}
-use Rattle.refusal.specs.Outcome.{Outcome}
+use Rattle.refusal.specs.Outcome.{Outcome, answered}
 use Rattle.refusal.specs.declared.Refusal.TheVariants as e
 use Rattle.decoder.specs.declared.Decoder.{Decoder}
 use Rattle.decoder.specs.declared.Fed.{Fed}
-use Rattle.decoder.specs.declared.FeedAnswer.{FeedAnswer}
-use Rattle.decoder.specs.declared.FeedAnswer.TheVariants as f
 use Rattle.decoder.specs.State.{limit, sound, fresh, reset}
-use Rattle.decoder.specs.Call.{walk, ready, call, answered, Feeds}
+use Rattle.decoder.specs.Call.{walk, ready, call, Feeds}
 use Rattle.damage.specs.History.{meaning}
 use Rattle.damage.specs.Caller.{Call, CallLog, bytes_used, in_front, Made, none, given, lent, meanwhile, Exactly}
 use Rattle.damage.specs.Condition3.{Condition3}
@@ -20,10 +19,11 @@ use Rattle.damage.specs.Promises.{Promises}
 use Rattle.damage.specs.Calls.{fed_count, fed_reports, fed_state, by_value, log_of, singly}
 use Rattle.damage.proofs.Hearing.{Answers, made_exists}
 use Rattle.damage.proofs.Thin.{IsCall, Thin, thin_singly, thin_promises}
+use Rattle.refusal.specs.declared.Refusal.{Refusal}
 
-is_call : (d : Decoder) (store bytes : List ℕ) (answer : FeedAnswer) (next : Decoder) (left : List ℕ) → sound d ≡ true
+is_call : (d : Decoder) (store bytes : List ℕ) (answer : Result Fed Refusal) (next : Decoder) (left : List ℕ) → sound d ≡ true
     → Feeds (call d store bytes) answer store left × (next ≡ fed_state (answered answer) d)
-    → IsCall (λ (a : FeedAnswer). fed_count (answered a)) (λ (a : FeedAnswer) (m : List ℕ). fed_reports (answered a) m) (λ (k : Decoder). k)
+    → IsCall (λ (a : Result Fed Refusal). fed_count (answered a)) (λ (a : Result Fed Refusal) (m : List ℕ). fed_reports (answered a) m) (λ (k : Decoder). k)
     (call d store bytes) d store answer next left
 is_call d store bytes answer next left ok met =
     record {
@@ -52,8 +52,8 @@ condition_3_by_value = (by_value_lem fresh).condition_3
 -- some answer meets the contract, and so the calls can be made
 answers : Answers by_value
 answers d store bytes =
-    split (ready d store) (λ t. (f.Ok (walk d store bytes).fed, _, _, (record { answers = rw t; leaves = refl }, refl)))
-    (λ t. (f.Err e.BadStore, _, _, (record { answers = rw t; leaves = refl }, refl)))
+    split (ready d store) (λ t. (Ok (walk d store bytes).fed, _, _, (record { answers = rw t; leaves = refl }, refl)))
+    (λ t. (Err e.BadStore, _, _, (record { answers = rw t; leaves = refl }, refl)))
 
 pub by_value_exists : (cs : List (Call by_value)) (d : Decoder) (store bytes : List ℕ) → (log : CallLog) × Made by_value cs d store bytes log
 by_value_exists = made_exists by_value answers

@@ -1,19 +1,18 @@
 -- The call in place is the decoder's call, because its contract is said by the same definition: the state behind the reference is the one that
 -- the call by value returns.
+use Rattle.std.specs.Prelude.{Err, Ok, Result}
 use mathlib.Core.Path.{◌≡◌, refl, ◌∙◌, ap, ap₂}
 use mathlib.Core.Bool.{true}
 use mathlib.Core.List.{List}
 use Prim.Native.Nat.{ℕ, ◌≤◌}
 use lib.ListN.{length}
 use Rattle.laws.proofs.Tests.{split}
-use Rattle.refusal.specs.Outcome.{Outcome, gives, refused}
+use Rattle.refusal.specs.Outcome.{Outcome, gives, refused, answered}
 use Rattle.refusal.specs.declared.Refusal.TheVariants as e
 use Rattle.decoder.specs.declared.Decoder.{Decoder}
 use Rattle.decoder.specs.State.{limit, sound, fresh, reset}
 use Rattle.decoder.specs.Call.{Walked, walk, ready, call, fed_of, store_of}
-use Rattle.decoder_in_place.specs.declared.by_value.TakeAnswer.{TakeAnswer}
-use Rattle.decoder_in_place.specs.declared.by_value.TakeAnswer.TheVariants as a
-use Rattle.decoder_in_place.specs.InPlace.{taken_of, next_state, taken_told, FeedsInPlace}
+use Rattle.decoder_in_place.specs.InPlace.{taken_of, next_state, FeedsInPlace}
 use Rattle.damage.specs.Caller.{Call, CallLog, Made, Exactly}
 use Rattle.damage.specs.Condition3.{Condition3}
 use Rattle.damage.specs.Promises.{Promises}
@@ -21,6 +20,8 @@ use Rattle.damage.specs.Calls.{fed_count, fed_reports, fed_state, singly}
 use Rattle.damage.proofs.Hearing.{Answers, made_exists}
 use Rattle.damage.proofs.Thin.{IsCall, Thin, thin_singly, thin_promises}
 use Rattle.damage.specs.InPlaceCalls.{taken_count, taken_reports, in_place}
+use Rattle.refusal.specs.declared.Refusal.{Refusal}
+use Rattle.decoder_in_place.specs.declared.Taken.{Taken}
 
 -- what is answered and what is kept, with the state in the answer or behind the reference
 same_count : (o : Outcome Walked) → taken_count (taken_of o) ≡ fed_count (fed_of o)
@@ -35,9 +36,9 @@ same_state : (o : Outcome Walked) (d : Decoder) → next_state o d ≡ fed_state
 same_state (gives w) d = refl
 same_state (refused k values) d = refl
 
-is_call : (d : Decoder) (store bytes : List ℕ) (answer : TakeAnswer) (next : Decoder) (left : List ℕ) → sound d ≡ true
+is_call : (d : Decoder) (store bytes : List ℕ) (answer : Result Taken Refusal) (next : Decoder) (left : List ℕ) → sound d ≡ true
     → FeedsInPlace (call d store bytes) answer d next store left
-    → IsCall (λ (x : TakeAnswer). taken_count (taken_told x)) (λ (x : TakeAnswer) (m : List ℕ). taken_reports (taken_told x) m) (λ (k : Decoder). k)
+    → IsCall (λ (x : Result Taken Refusal). taken_count (answered x)) (λ (x : Result Taken Refusal) (m : List ℕ). taken_reports (answered x) m) (λ (k : Decoder). k)
     (call d store bytes) d store answer next left
 is_call d store bytes answer next left ok met =
     let o = call d store bytes in
@@ -69,8 +70,8 @@ answers : Answers in_place
 answers d store bytes =
     let w = walk d store bytes in
     split (ready d store)
-    (λ t. (a.Ok (record { used = w.fed.used; interrupted = w.fed.interrupted; report = w.fed.report }), _, _, record { answers = rw t; keeps = refl; leaves = refl }))
-    (λ t. (a.Err e.BadStore, _, _, record { answers = rw t; keeps = refl; leaves = refl }))
+    (λ t. (Ok (record { used = w.fed.used; interrupted = w.fed.interrupted; report = w.fed.report }), _, _, record { answers = rw t; keeps = refl; leaves = refl }))
+    (λ t. (Err e.BadStore, _, _, record { answers = rw t; keeps = refl; leaves = refl }))
 
 pub in_place_exists : (cs : List (Call in_place)) (d : Decoder) (store bytes : List ℕ) → (log : CallLog) × Made in_place cs d store bytes log
 in_place_exists = made_exists in_place answers

@@ -1,4 +1,5 @@
 -- What the step reports is what history says, because the state holds just what the bytes ahead say, and each class of byte keeps it so.
+use Rattle.std.specs.Prelude.{None, Option, Some}
 use mathlib.Core.Path.{◌≡◌, refl, sym, ◌∙◌, ap, ap₂, subst}
 use mathlib.Core.Bool.{Bool, true, false}
 use mathlib.Core.List.{List, [], ◌∷◌, ◌++◌}
@@ -13,16 +14,11 @@ use Rattle.laws.proofs.Tests.{split, both, true_is_not_false}
 use Rattle.wire.specs.Status.{data_length, is_channel_status}
 use Rattle.wire.specs.RealTime.{realtime_of}
 use Rattle.wire.specs.declared.system_common.SystemCommon.TheVariants as y
-use Rattle.wire.specs.declared.real_time.MaybeRealtime.{MaybeRealtime}
-use Rattle.wire.specs.declared.real_time.MaybeRealtime.TheVariants as t
 use Rattle.wire.proofs.DataLength.{none_of_data, none_of_start, none_above}
-use Rattle.decoder.specs.declared.RunningStatus.TheVariants as s
 use Rattle.decoder.specs.declared.Decoder.{Decoder}
 use Rattle.decoder.specs.declared.Class.{Class}
 use Rattle.decoder.specs.declared.Class.TheVariants as k
 use Rattle.decoder.specs.declared.Report.TheVariants as r
-use Rattle.decoder.specs.declared.MaybeReport.{MaybeReport}
-use Rattle.decoder.specs.declared.MaybeReport.TheVariants as m
 use Rattle.decoder.specs.declared.Stepped.{Stepped}
 use Rattle.decoder.specs.State.{limit, cleared, fresh}
 use Rattle.decoder.specs.Step.{class_of, step_in, step, stored_in, stored, realtime_report, silent, longer, too_long, collect}
@@ -37,6 +33,8 @@ use Rattle.damage.specs.History.{interruption, heard_data, heard_in, heard, mean
 use Rattle.damage.specs.Calls.{singly, state_singly, store_singly}
 use Rattle.damage.proofs.Ahead.{next_status, next_data, ahead}
 use Rattle.damage.proofs.Matches.{held, pending, Matches, nothing_pending, data_next}
+use Rattle.decoder.specs.declared.Report.{Report}
+use Rattle.wire.specs.declared.real_time.Realtime.{Realtime}
 
 -- a byte's reports, a frame's bytes read from the store that the byte leaves
 abbrev pub reports_in : Stepped → List ℕ → List Reported
@@ -65,7 +63,7 @@ flag_is_open v xs d store g =
     split (is_open v xs) (λ e. (g.framed e).inside ∙ sym e) (λ e. (g.plain e).outside ∙ sym e)
 
 -- a cleared state is what a status byte leaves that is not F0 and takes no data
-closed_at : (v : ℕ) (xs : List ℕ) (d : Decoder) (store : List ℕ) → is_open v xs ≡ false → held v xs ≡ s.None → pending v xs ≡ 0 → limit ≤ length store
+closed_at : (v : ℕ) (xs : List ℕ) (d : Decoder) (store : List ℕ) → is_open v xs ≡ false → held v xs ≡ None → pending v xs ≡ 0 → limit ≤ length store
     → Matches v xs (cleared d) store
 closed_at v xs d store n h p room =
     record {
@@ -79,7 +77,7 @@ cleared_by b d store l room =
     closed_at b [] d store (not_open b [] (λ e. omega arith)) (rw (le-ltb b 0xF0 (omega arith), le-leb 0x80 b (omega arith), none_above b l)) (nothing_pending b) room
 
 -- 18 where a frame was open, then the byte's own report
-broken_off : (t : Bool) (store : List ℕ) (x : MaybeReport) → told_all store (report_list t x) ≡ interruption t ++ told_all store (own_report x)
+broken_off : (t : Bool) (store : List ℕ) (x : Option Report) → told_all store (report_list t x) ≡ interruption t ++ told_all store (own_report x)
 broken_off true store x = refl
 broken_off false store x = refl
 
@@ -87,28 +85,28 @@ no_more : (t : Bool) → interruption t ++ [] ≡ interruption t
 no_more true = refl
 no_more false = refl
 
-realtime_told : (store : List ℕ) (x : MaybeRealtime) → told_all store (own_report (realtime_report x)) ≡ heard_realtime x
-realtime_told store (t.Some x) = refl
-realtime_told store t.None = refl
+realtime_told : (store : List ℕ) (x : Option Realtime) → told_all store (own_report (realtime_report x)) ≡ heard_realtime x
+realtime_told store (Some x) = refl
+realtime_told store None = refl
 
 -- a dropped frame holds no status and no data
-start_holds_none : (xs : List ℕ) → (held 0xF0 xs ≡ s.None) × (pending 0xF0 xs ≡ 0)
+start_holds_none : (xs : List ℕ) → (held 0xF0 xs ≡ None) × (pending 0xF0 xs ≡ 0)
 start_holds_none xs = (rw (none_of_start, le-ltb (length xs) 0 (omega arith)), rw (none_of_start, le-ltb (length xs) 0 (omega arith)))
 
 start_silent : (xs : List ℕ) (b : ℕ) → heard_data 0xF0 xs b ≡ []
 start_silent xs b = rw (none_of_start, ne_eqb (length xs + 1) 0 (λ q. omega arith))
 
 -- what a byte that waits for data leaves
-held_first : (b : ℕ) → Range k.Held b → held b [] ≡ s.Status b
+held_first : (b : ℕ) → Range k.Held b → held b [] ≡ Some b
 held_first b h = split (is_channel_status b) (λ c. rw c) (λ c. rw (c, lt-ltb 0 (data_length b) (held_takes_data b h)))
 
 module _ (v : ℕ) (xs : List ℕ) (d : Decoder) (store : List ℕ) (g : Matches v xs d store) (b : ℕ) where
   -- a status byte 80 to F6: 18 where a frame is open, whatever the store, then its own report
-  flagged : (kept : List ℕ) (x : MaybeReport) → told_all kept (report_list d.in_sysex x) ≡ interruption (is_open v xs) ++ told_all kept (own_report x)
+  flagged : (kept : List ℕ) (x : Option Report) → told_all kept (report_list d.in_sysex x) ≡ interruption (is_open v xs) ++ told_all kept (own_report x)
   flagged kept x = ap (λ t. told_all kept (report_list t x)) (flag_is_open v xs d store g) ∙ broken_off (is_open v xs) kept x
 
-  unreported : (kept : List ℕ) → told_all kept (report_list d.in_sysex m.None) ≡ interruption (is_open v xs)
-  unreported kept = flagged kept m.None ∙ no_more (is_open v xs)
+  unreported : (kept : List ℕ) → told_all kept (report_list d.in_sysex None) ≡ interruption (is_open v xs)
+  unreported kept = flagged kept None ∙ no_more (is_open v xs)
 
   more : length (xs ++ (b ∷ [])) ≡ length xs + 1
   more = length-append xs (b ∷ [])
@@ -200,7 +198,7 @@ module _ (v : ℕ) (xs : List ℕ) (d : Decoder) (store : List ℕ) (g : Matches
         },
       )
   good k.Undefined h = (unreported store, cleared_by b d store h.0 g.room)
-  good k.Tune h = (flagged store (m.Some (r.Common y.TuneRequest)), cleared_by b d store (omega arith) g.room)
+  good k.Tune h = (flagged store (Some (r.Common y.TuneRequest)), cleared_by b d store (omega arith) g.room)
   good k.End h =
       split (is_open v xs)
       (λ e. split (ltb d.len limit)

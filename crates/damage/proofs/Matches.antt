@@ -1,5 +1,6 @@
 -- The decoder's state is what the bytes ahead say it is: the frame's bytes stand at the store's front, and the status and the byte
 -- that waits are those that the last status byte and the data since leave.
+use Rattle.std.specs.Prelude.{None, Option, Some}
 use mathlib.Core.Path.{◌≡◌, refl, sym, ◌∙◌, ap, subst}
 use mathlib.Core.Bool.{true, false}
 use mathlib.Core.List.{List, [], ◌∷◌, ◌++◌}
@@ -14,14 +15,7 @@ use Rattle.laws.proofs.Tests.{by_test, split}
 use Rattle.wire.specs.Status.{data_length, is_channel_status}
 use Rattle.wire.specs.ChannelMessage.{channel_message}
 use Rattle.wire.specs.SystemCommon.{common_message}
-use Rattle.wire.specs.declared.channel_message.MaybeChannelMessage.{MaybeChannelMessage}
-use Rattle.wire.specs.declared.channel_message.MaybeChannelMessage.TheVariants as c
-use Rattle.wire.specs.declared.system_common.MaybeSystemCommon.{MaybeSystemCommon}
-use Rattle.wire.specs.declared.system_common.MaybeSystemCommon.TheVariants as g
-use Rattle.decoder.specs.declared.RunningStatus.{RunningStatus}
-use Rattle.decoder.specs.declared.RunningStatus.TheVariants as s
 use Rattle.decoder.specs.declared.Decoder.{Decoder}
-use Rattle.decoder.specs.declared.MaybeReport.TheVariants as m
 use Rattle.decoder.specs.declared.Stepped.{Stepped}
 use Rattle.decoder.specs.State.{limit}
 use Rattle.decoder.specs.Step.{common_report, or_common, message_report, collect, kept, waiting, completed}
@@ -29,10 +23,12 @@ use Rattle.decoder.specs.Reports.{own_report, report_list, told_all}
 use Rattle.decoder.proofs.SoundKept.{at_most_two}
 use Rattle.damage.specs.Open.{is_open}
 use Rattle.damage.specs.History.{heard_common, heard_message, message, last_of, heard_data}
+use Rattle.wire.specs.declared.system_common.SystemCommon.{SystemCommon}
+use Rattle.wire.specs.declared.channel_message.ChannelMessage.{ChannelMessage}
 
 -- the status in force: a channel status for good, a common one until its data are there
-abbrev pub held : ℕ → List ℕ → RunningStatus
-held status xs = pick (is_channel_status status) (s.Status status) (pick (ltb (length xs) (data_length status)) (s.Status status) s.None)
+abbrev pub held : ℕ → List ℕ → Option ℕ
+held status xs = pick (is_channel_status status) (Some status) (pick (ltb (length xs) (data_length status)) (Some status) None)
 
 -- how many data bytes wait for the rest of their message
 abbrev pub pending : ℕ → List ℕ → ℕ
@@ -58,17 +54,17 @@ pub record Matches (status : ℕ) (xs : List ℕ) (d : Decoder) (store : List �
   pub plain : is_open status xs ≡ false → Outside status xs d
 
 -- the message that is reported is the one that history names
-common_told : (store : List ℕ) (x : MaybeSystemCommon) → told_all store (own_report (common_report x)) ≡ heard_common x
-common_told store (g.Some x) = refl
-common_told store g.None = refl
+common_told : (store : List ℕ) (x : Option SystemCommon) → told_all store (own_report (common_report x)) ≡ heard_common x
+common_told store (Some x) = refl
+common_told store None = refl
 
 message_told : (store : List ℕ) (v a b : ℕ) → told_all store (own_report (message_report v a b)) ≡ message v a b
 unfolding message_report message
 message_told store v a b = go (channel_message v a b)
   where
-    go : (x : MaybeChannelMessage) → told_all store (own_report (or_common x v a b)) ≡ heard_message x v a b
-    go (c.Some x) = refl
-    go c.None = common_told store (common_message v a b)
+    go : (x : Option ChannelMessage) → told_all store (own_report (or_common x v a b)) ≡ heard_message x v a b
+    go (Some x) = refl
+    go None = common_told store (common_message v a b)
 
 -- a status behind which nothing has come yet
 pub nothing_pending : (v : ℕ) → pending v [] ≡ 0
@@ -98,21 +94,21 @@ module _ (v : ℕ) (xs : List ℕ) (d : Decoder) (b : ℕ) (store : List ℕ) wh
   )
 
   -- the first data byte waits for the second
-  waits : heard_data v xs b ≡ [] → held v (xs ++ (b ∷ [])) ≡ s.Status v → pending v (xs ++ (b ∷ [])) ≡ 1
-      → Next v xs b store (record { state = waiting d v b; interrupted = false; report = m.None })
+  waits : heard_data v xs b ≡ [] → held v (xs ++ (b ∷ [])) ≡ Some v → pending v (xs ++ (b ∷ [])) ≡ 1
+      → Next v xs b store (record { state = waiting d v b; interrupted = false; report = None })
   waits e k p = (sym e, record { outside = refl; force = sym k; have = sym p; first = λ q. sym (last_is xs b) })
 
   -- the three ways a data byte goes, by what waits
   at_once : d.have ≡ 0 → leb (data_length v) 1 ≡ true
-      → collect (s.Status v) d b ≡ record { state = completed v b d.data1; interrupted = false; report = message_report v b 0 }
+      → collect (Some v) d b ≡ record { state = completed v b d.data1; interrupted = false; report = message_report v b 0 }
   at_once h l = rw (eq-eqb d.have 0 h, l)
 
   first_of_two : d.have ≡ 0 → leb (data_length v) 1 ≡ false
-      → collect (s.Status v) d b ≡ record { state = waiting d v b; interrupted = false; report = m.None }
+      → collect (Some v) d b ≡ record { state = waiting d v b; interrupted = false; report = None }
   first_of_two h l = rw (eq-eqb d.have 0 h, l)
 
   second_of_two : d.have ≡ 1
-      → collect (s.Status v) d b ≡ record { state = completed v d.data0 b; interrupted = false; report = message_report v d.data0 b }
+      → collect (Some v) d b ≡ record { state = completed v d.data0 b; interrupted = false; report = message_report v d.data0 b }
   second_of_two h = rw (ne_eqb d.have 0 (λ e. omega arith))
 
   goes : (x y : Stepped) → x ≡ y → Next v xs b store y → Next v xs b store x
@@ -122,37 +118,37 @@ module _ (v : ℕ) (xs : List ℕ) (d : Decoder) (b : ℕ) (store : List ℕ) wh
   more = length-append xs (b ∷ [])
 
   -- a channel status: running status, so that it stays
-  channel_next : is_channel_status v ≡ true → Outside v xs d → Next v xs b store (collect (s.Status v) d b)
+  channel_next : is_channel_status v ≡ true → Outside v xs d → Next v xs b store (collect (Some v) d b)
   channel_next c o = split (leb (data_length v) 1) one two
     where
       stays : kept v ≡ held v (xs ++ (b ∷ []))
       stays = rw c
 
-      one : leb (data_length v) 1 ≡ true → Next v xs b store (collect (s.Status v) d b)
+      one : leb (data_length v) 1 ≡ true → Next v xs b store (collect (Some v) d b)
       one l =
           let none : d.have ≡ 0 = o.have ∙ rw (c, l) in
           goes _ _ (at_once none l) (whole b d.data1 b 0 (rw (c, l)) stays (rw (c, l)))
 
-      two : leb (data_length v) 1 ≡ false → Next v xs b store (collect (s.Status v) d b)
+      two : leb (data_length v) 1 ≡ false → Next v xs b store (collect (Some v) d b)
       two l = split (eqb (length xs % 2) 1) odd even
         where
           now : d.have ≡ length xs % 2
           now = o.have ∙ rw (c, l)
 
-          odd : eqb (length xs % 2) 1 ≡ true → Next v xs b store (collect (s.Status v) d b)
+          odd : eqb (length xs % 2) 1 ≡ true → Next v xs b store (collect (Some v) d b)
           odd e =
               let is : length xs % 2 ≡ 1 = eqb-true _ _ e in
               let known : d.data0 ≡ last_of xs = o.first (rw (c, l) is) in
               goes _ _ (second_of_two (now ∙ is))
               (whole d.data0 b d.data0 b (rw (c, l, e, known)) stays (rw (c, l, more) (omega arith)))
 
-          even : eqb (length xs % 2) 1 ≡ false → Next v xs b store (collect (s.Status v) d b)
+          even : eqb (length xs % 2) 1 ≡ false → Next v xs b store (collect (Some v) d b)
           even e =
               let is : length xs % 2 ≡ 0 = omega (arith, eqb-false (length xs % 2) 1 e) in
               goes _ _ (first_of_two (now ∙ is) l) (waits (rw (c, l, e)) (rw c) (rw (c, l, more) (omega arith)))
 
   -- a common status: it serves once
-  common_next : is_channel_status v ≡ false → length xs < data_length v → Outside v xs d → Next v xs b store (collect (s.Status v) d b)
+  common_next : is_channel_status v ≡ false → length xs < data_length v → Outside v xs d → Next v xs b store (collect (Some v) d b)
   common_next c h o = split (leb (data_length v) 1) one two
     where
       now : d.have ≡ length xs
@@ -161,27 +157,27 @@ module _ (v : ℕ) (xs : List ℕ) (d : Decoder) (b : ℕ) (store : List ℕ) wh
       done : data_length v ≤ length xs + 1 → (kept v ≡ held v (xs ++ (b ∷ []))) × (pending v (xs ++ (b ∷ [])) ≡ 0)
       done g = (rw (c, more, le-ltb (length xs + 1) (data_length v) g), rw (c, more, le-ltb (length xs + 1) (data_length v) g))
 
-      one : leb (data_length v) 1 ≡ true → Next v xs b store (collect (s.Status v) d b)
+      one : leb (data_length v) 1 ≡ true → Next v xs b store (collect (Some v) d b)
       one l =
           let small : data_length v ≤ 1 = leb-true _ _ l in
           let none : d.have ≡ 0 = now ∙ omega arith in
           let all = done (omega arith) in
           goes _ _ (at_once none l) (whole b d.data1 b 0 (rw (c, l, eq-eqb (length xs + 1) (data_length v) (omega arith))) all.0 all.1)
 
-      two : leb (data_length v) 1 ≡ false → Next v xs b store (collect (s.Status v) d b)
+      two : leb (data_length v) 1 ≡ false → Next v xs b store (collect (Some v) d b)
       two l = split (eqb (length xs) 0) empty some
         where
           exactly : data_length v ≡ 2
           exactly = omega (arith, at_most_two v, leb-false (data_length v) 1 l)
 
-          empty : eqb (length xs) 0 ≡ true → Next v xs b store (collect (s.Status v) d b)
+          empty : eqb (length xs) 0 ≡ true → Next v xs b store (collect (Some v) d b)
           empty e =
               let is : length xs ≡ 0 = eqb-true _ _ e in
               goes _ _ (first_of_two (now ∙ is) l)
               (waits (rw (c, ne_eqb (length xs + 1) (data_length v) (λ q. omega (arith, exactly)))) (rw (c, more, lt-ltb (length xs + 1) (data_length v) (omega (arith, exactly))))
               (rw (c, more, lt-ltb (length xs + 1) (data_length v) (omega (arith, exactly))) (omega arith)))
 
-          some : eqb (length xs) 0 ≡ false → Next v xs b store (collect (s.Status v) d b)
+          some : eqb (length xs) 0 ≡ false → Next v xs b store (collect (Some v) d b)
           some e =
               let is : length xs ≡ 1 = omega (arith, exactly, eqb-false (length xs) 0 e) in
               let known : d.data0 ≡ last_of xs = o.first (rw (c, lt-ltb (length xs) (data_length v) h) is) in
@@ -190,7 +186,7 @@ module _ (v : ℕ) (xs : List ℕ) (d : Decoder) (b : ℕ) (store : List ℕ) wh
               (whole d.data0 b d.data0 b (rw (c, l, eq-eqb (length xs + 1) (data_length v) (omega (arith, exactly)), known)) all.0 all.1)
 
   -- no status in force: stray data
-  stray_next : is_channel_status v ≡ false → data_length v ≤ length xs → Outside v xs d → Next v xs b store (collect s.None d b)
+  stray_next : is_channel_status v ≡ false → data_length v ≤ length xs → Outside v xs d → Next v xs b store (collect None d b)
   stray_next c h o = (
     sym (rw (c, ne_eqb (length xs + 1) (data_length v) (λ q. omega arith))),
     record {
@@ -208,12 +204,12 @@ module _ (v : ℕ) (xs : List ℕ) (d : Decoder) (b : ℕ) (store : List ℕ) wh
 
   -- any status but F0
   pub data_next : Outside v xs d → Next v xs b store (collect d.status d b)
-  data_next o = split (is_channel_status v) (λ c. under (s.Status v) (rw c) (channel_next c o)) other
+  data_next o = split (is_channel_status v) (λ c. under (Some v) (rw c) (channel_next c o)) other
     where
-      under : (x : RunningStatus) → held v xs ≡ x → Next v xs b store (collect x d b) → Next v xs b store (collect d.status d b)
-      under x e n = subst (λ (y : RunningStatus). Next v xs b store (collect y d b)) (sym (o.force ∙ e)) n
+      under : (x : Option ℕ) → held v xs ≡ x → Next v xs b store (collect x d b) → Next v xs b store (collect d.status d b)
+      under x e n = subst (λ (y : Option ℕ). Next v xs b store (collect y d b)) (sym (o.force ∙ e)) n
 
       other : is_channel_status v ≡ false → Next v xs b store (collect d.status d b)
       other c =
-          split (ltb (length xs) (data_length v)) (λ l. under (s.Status v) (rw (c, l)) (common_next c (ltb-true _ _ l) o))
-          (λ l. under s.None (rw (c, l)) (stray_next c (ltb-false _ _ l) o))
+          split (ltb (length xs) (data_length v)) (λ l. under (Some v) (rw (c, l)) (common_next c (ltb-true _ _ l) o))
+          (λ l. under None (rw (c, l)) (stray_next c (ltb-false _ _ l) o))

@@ -1,5 +1,6 @@
 -- One call beside single bytes: it stops at the first byte that reports, so it reports what its bytes report singly, and it leaves the state
 -- and the store that they leave.
+use Rattle.std.specs.Prelude.{None, Option, Some}
 use mathlib.Core.Path.{◌≡◌, refl, sym, ◌∙◌, ap}
 use mathlib.Core.Bool.{Bool, true, false, not, ◌||◌}
 use mathlib.Core.List.{List, [], ◌∷◌}
@@ -8,8 +9,6 @@ use native.Mathlib.Omega.{arith}
 use lib.ListN.{length, take, drop}
 use Rattle.laws.proofs.Tests.{by_test}
 use Rattle.decoder.specs.declared.Decoder.{Decoder}
-use Rattle.decoder.specs.declared.MaybeReport.{MaybeReport}
-use Rattle.decoder.specs.declared.MaybeReport.TheVariants as m
 use Rattle.decoder.specs.declared.Stepped.{Stepped}
 use Rattle.decoder.specs.State.{sound}
 use Rattle.decoder.specs.Step.{step, stored}
@@ -19,16 +18,17 @@ use Rattle.decoder.proofs.SoundKept.{sound_kept, length_kept}
 use Rattle.damage.specs.Reported.{Reported}
 use Rattle.damage.specs.Caller.{belonging, is_silent, up_to_report}
 use Rattle.damage.specs.Calls.{singly}
+use Rattle.decoder.specs.declared.Report.{Report}
 
 -- a byte that reports has something to report, and one that does not has nothing
 reports_some : (x : Stepped) (store : List ℕ) → is_silent (told_all store (report_list x.interrupted x.report)) ≡ not (reports x)
 reports_some x store = go x.interrupted x.report
   where
-    go : (t : Bool) (r : MaybeReport) → is_silent (told_all store (report_list t r)) ≡ not (t || Rattle.decoder.specs.Call.some_report r)
-    go true m.None = refl
-    go true (m.Some r) = refl
-    go false m.None = refl
-    go false (m.Some r) = refl
+    go : (t : Bool) (r : Option Report) → is_silent (told_all store (report_list t r)) ≡ not (t || Rattle.decoder.specs.Call.some_report r)
+    go true None = refl
+    go true (Some r) = refl
+    go false None = refl
+    go false (Some r) = refl
 
 silent_is : (xs : List Reported) → is_silent xs ≡ true → xs ≡ []
 silent_is [] e = refl

@@ -1,4 +1,5 @@
 -- Streams with concrete bytes, computed: document 01's marked rows (f) to (j), and the frame limit's edges at its value.
+use Rattle.std.specs.Prelude.{Some}
 use mathlib.Core.Path.{◌≡◌, refl}
 use mathlib.Core.Bool.{true, false}
 use mathlib.Core.List.{List, [], ◌∷◌, ◌++◌}
@@ -10,7 +11,6 @@ use Rattle.wire.specs.declared.channel_message.ChannelMessage.TheVariants as w
 use Rattle.wire.specs.declared.system_common.SystemCommon.TheVariants as y
 use Rattle.wire.specs.declared.real_time.Realtime.TheVariants as t
 use Rattle.decoder.specs.declared.Report.TheVariants as r
-use Rattle.decoder.specs.declared.MaybeReport.TheVariants as m
 use Rattle.decoder.specs.State.{limit, fresh}
 use Rattle.decoder.specs.Step.{class_of, step, stored}
 use Rattle.decoder.specs.Call.{walk}
@@ -44,20 +44,20 @@ abbrev pub blank : List ℕ
 blank = replicate 2354 0
 
 -- 2,352 data bytes: a frame of 2,354 bytes is reported
-pub edge_2352 : ((walk fresh blank (framed 2352 (0xF7 ∷ []))).fed.used ≡ 2354) × ((walk fresh blank (framed 2352 (0xF7 ∷ []))).fed.report ≡ m.Some (r.SysEx 2354))
+pub edge_2352 : ((walk fresh blank (framed 2352 (0xF7 ∷ []))).fed.used ≡ 2354) × ((walk fresh blank (framed 2352 (0xF7 ∷ []))).fed.report ≡ Some (r.SysEx 2354))
 unfolding walk step stored class_of limit
 edge_2352 = (refl, refl)
 
 -- 2,353 data bytes: F7 drops the frame with 19; F6 breaks it off with 18
 pub edge_2353 :
-    ((walk fresh blank (framed 2353 (0xF7 ∷ []))).fed.used ≡ 2355) × ((walk fresh blank (framed 2353 (0xF7 ∷ []))).fed.report ≡ m.Some (r.SysExTooLong 2354))
+    ((walk fresh blank (framed 2353 (0xF7 ∷ []))).fed.used ≡ 2355) × ((walk fresh blank (framed 2353 (0xF7 ∷ []))).fed.report ≡ Some (r.SysExTooLong 2354))
     × ((walk fresh blank (framed 2353 (0xF6 ∷ []))).fed.used ≡ 2355) × ((walk fresh blank (framed 2353 (0xF6 ∷ []))).fed.interrupted ≡ true)
 unfolding walk step stored class_of limit
 edge_2353 = (refl, refl, refl, refl)
 
 -- 2,354 data bytes: the last of them drops the frame with 19, and no frame is open any more
 pub edge_2354 :
-    ((walk fresh blank (framed 2354 (0xF6 ∷ []))).fed.used ≡ 2355) × ((walk fresh blank (framed 2354 (0xF6 ∷ []))).fed.report ≡ m.Some (r.SysExTooLong 2354))
+    ((walk fresh blank (framed 2354 (0xF6 ∷ []))).fed.used ≡ 2355) × ((walk fresh blank (framed 2354 (0xF6 ∷ []))).fed.report ≡ Some (r.SysExTooLong 2354))
     × ((walk fresh blank (framed 2354 (0xF6 ∷ []))).fed.state.in_sysex ≡ false)
 unfolding walk step stored class_of limit
 edge_2354 = (refl, refl, refl)

@@ -1,5 +1,6 @@
 -- What the writers of channel, common and real-time messages write, a fresh decoder reports as exactly that message, because the
 -- bytes that they put at the buffer's front are the sent message's bytes.
+use Rattle.std.specs.Prelude.{Ok}
 use mathlib.Core.Path.{◌≡◌, refl, sym, ◌∙◌, ap, subst}
 use mathlib.Core.Bool.{Bool, true, false}
 use mathlib.Core.List.{List, [], ◌∷◌, append-nil}
@@ -11,7 +12,6 @@ use lib.Seq.{take_at}
 use borrow.Author.Tests.{lt-ltb, le-leb}
 use Rattle.laws.proofs.Tests.{split}
 use Rattle.refusal.specs.Outcome.{gives, Writes, with_room}
-use Rattle.refusal.specs.declared.Count.TheVariants as n
 use Rattle.refusal.proofs.Given.{given_not_refused}
 use Rattle.wire.specs.declared.Channel.{Channel}
 use Rattle.wire.specs.declared.channel_message.ChannelMessage.{ChannelMessage}
@@ -37,7 +37,7 @@ use Rattle.damage.proofs.MessagesRead.{messages_read}
 use Rattle.damage.proofs.Woven.{realtime_heard, woven}
 
 -- a writer that accepts leaves its bytes at the buffer's front
-wrote : (bs out later : List ℕ) (count : ℕ) → Writes (with_room (length out) bs) (n.Ok count) out later → take count later ≡ bs
+wrote : (bs out later : List ℕ) (count : ℕ) → Writes (with_room (length out) bs) (Ok count) out later → take count later ≡ bs
 wrote bs out later count w = split (leb (length bs) (length out)) fits refused_instead
   where
     fits : leb (length bs) (length out) ≡ true → take count later ≡ bs
@@ -72,9 +72,9 @@ read_alone m ok store room =
 -- a writer that accepted: its count is n, and the buffer's first n bytes read as the message
 module _ (store : List ℕ) (room : limit ≤ length store) (out later : List ℕ) (count : ℕ) where
   pub channel_writer_reads : (c : Channel) (m : ChannelMessage) → c.0 < 16 → message_in_range m ≡ true
-      → Writes (channel_write c m (length out)) (n.Ok count) out later → singly fresh store (take count later) ≡ intacts (tagged (Voice c m))
+      → Writes (channel_write c m (length out)) (Ok count) out later → singly fresh store (take count later) ≡ intacts (tagged (Voice c m))
   channel_writer_reads c m h ok w =
-      ap (singly fresh store) (wrote (channel_bytes c m) out later count (subst (λ o. Writes o (n.Ok count) out later) same w))
+      ap (singly fresh store) (wrote (channel_bytes c m) out later count (subst (λ o. Writes o (Ok count) out later) same w))
       ∙ read_alone (Voice c m) (rw (lt-ltb c.0 16 h, ok, le-leb (length (channel_bytes c m)) limit short)) store room
     where
       same : channel_write c m (length out) ≡ with_room (length out) (channel_bytes c m)
@@ -84,9 +84,9 @@ module _ (store : List ℕ) (room : limit ≤ length store) (out later : List �
       short = omega (arith, channel_length m, room_for_three)
 
   pub common_writer_reads : (s : CommonStatus) (v : ℕ) → common_in_range (common s v) ≡ true
-      → Writes (common_write s v (length out)) (n.Ok count) out later → singly fresh store (take count later) ≡ intacts (tagged (Common (common s v)))
+      → Writes (common_write s v (length out)) (Ok count) out later → singly fresh store (take count later) ≡ intacts (tagged (Common (common s v)))
   common_writer_reads s v ok w =
-      ap (singly fresh store) (wrote (common_bytes (common s v)) out later count (subst (λ o. Writes o (n.Ok count) out later) same w))
+      ap (singly fresh store) (wrote (common_bytes (common s v)) out later count (subst (λ o. Writes o (Ok count) out later) same w))
       ∙ read_alone (Common (common s v)) (rw (ok, le-leb (length (common_bytes (common s v))) limit (short (common s v)))) store room
     where
       same : common_write s v (length out) ≡ with_room (length out) (common_bytes (common s v))
@@ -98,7 +98,7 @@ module _ (store : List ℕ) (room : limit ≤ length store) (out later : List �
       short (y.SongSelect a) = omega (arith, room_for_three)
       short y.TuneRequest = omega (arith, room_for_three)
 
-  pub realtime_writer_reads : (m : Realtime) → Writes (realtime_write m (length out)) (n.Ok count) out later
+  pub realtime_writer_reads : (m : Realtime) → Writes (realtime_write m (length out)) (Ok count) out later
       → singly fresh store (take count later) ≡ (gives (realtime m) ∷ []) ∷ []
   unfolding meaning
   realtime_writer_reads m w =

@@ -1,14 +1,14 @@
 -- The decoder's call by value as a caller makes it, and the bytes one by one.
-use Rattle.std.specs.Prelude.{◌≡◌, List, [], ◌∷◌, ℕ, take, drop}
-use Rattle.refusal.specs.Outcome.{Outcome, gives, refused}
+use Rattle.std.specs.Prelude.{◌≡◌, List, [], ◌∷◌, ℕ, take, drop, Result}
+use Rattle.refusal.specs.Outcome.{Outcome, gives, refused, answered}
 use Rattle.decoder.specs.declared.Decoder.{Decoder}
 use Rattle.decoder.specs.declared.Fed.{Fed}
-use Rattle.decoder.specs.declared.FeedAnswer.{FeedAnswer}
 use Rattle.decoder.specs.Step.{step, stored}
-use Rattle.decoder.specs.Call.{call, fed_of, store_of, answered, Feeds}
+use Rattle.decoder.specs.Call.{call, fed_of, store_of, Feeds}
 use Rattle.decoder.specs.Reports.{report_list, told_all}
 use Rattle.damage.specs.Reported.{Reported}
 use Rattle.damage.specs.Caller.{Caller, sole_caller, Call, give, lend_short, CallLog, bytes_used, in_front}
+use Rattle.refusal.specs.declared.Refusal.{Refusal}
 
 -- how many bytes a call used, or its refusal
 abbrev pub fed_count : Outcome Fed → Outcome ℕ
@@ -29,9 +29,9 @@ fed_state (refused n values) d = d
 abbrev pub by_value : Caller
 by_value =
     sole_caller
-    (λ (d : Decoder) (store bytes : List ℕ) (a : FeedAnswer) (next : Decoder) (left : List ℕ). Feeds (call d store bytes) a store left × (next ≡ fed_state (answered a) d))
-    (λ (a : FeedAnswer). fed_count (answered a))
-    (λ (a : FeedAnswer) (store : List ℕ). fed_reports (answered a) store)
+    (λ (d : Decoder) (store bytes : List ℕ) (a : Result Fed Refusal) (next : Decoder) (left : List ℕ). Feeds (call d store bytes) a store left × (next ≡ fed_state (answered a) d))
+    (λ (a : Result Fed Refusal). fed_count (answered a))
+    (λ (a : Result Fed Refusal) (store : List ℕ). fed_reports (answered a) store)
 
 -- what a list of calls comes to by the definition of a call
 unfoldable pub log_of : List (Call by_value) → Decoder → List ℕ → List ℕ → CallLog

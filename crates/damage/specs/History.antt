@@ -1,17 +1,13 @@
 -- What a byte reports, said from the bytes that arrived ahead of it alone: the last status byte below F8 and the data bytes since.
 -- This is the stream as MIDI 1.0 describes it; no state is kept.
-use Rattle.std.specs.Prelude.{Bool, true, List, [], ◌∷◌, ◌++◌, ℕ, ◌+◌, ◌-◌, ◌%◌, leb, eqb, length, get_or}
+use Rattle.std.specs.Prelude.{Bool, true, List, [], ◌∷◌, ◌++◌, ℕ, ◌+◌, ◌-◌, ◌%◌, leb, eqb, length, get_or, None, Option, Some}
 use Rattle.laws.specs.Choice.{pick}
 use Rattle.refusal.specs.Outcome.{gives}
 use Rattle.wire.specs.Status.{data_length, is_channel_status}
 use Rattle.wire.specs.ChannelMessage.{channel_message}
 use Rattle.wire.specs.SystemCommon.{common_message}
 use Rattle.wire.specs.RealTime.{realtime_of}
-use Rattle.wire.specs.declared.channel_message.MaybeChannelMessage.{MaybeChannelMessage}
-use Rattle.wire.specs.declared.channel_message.MaybeChannelMessage.TheVariants as c
 use Rattle.wire.specs.declared.system_common.SystemCommon.TheVariants as y
-use Rattle.wire.specs.declared.system_common.MaybeSystemCommon.{MaybeSystemCommon}
-use Rattle.wire.specs.declared.system_common.MaybeSystemCommon.TheVariants as g
 use Rattle.decoder.specs.declared.Class.{Class}
 use Rattle.decoder.specs.declared.Class.TheVariants as k
 use Rattle.decoder.specs.State.{limit}
@@ -19,21 +15,23 @@ use Rattle.decoder.specs.Step.{class_of}
 use Rattle.decoder.specs.Reports.{channel, common, frame}
 use Rattle.damage.specs.Reported.{Reported, report18, report19, heard_realtime}
 use Rattle.damage.specs.Open.{last_status, data_since, is_open}
+use Rattle.wire.specs.declared.system_common.SystemCommon.{SystemCommon}
+use Rattle.wire.specs.declared.channel_message.ChannelMessage.{ChannelMessage}
 
 -- 18 of a status byte that comes while a frame is open
 abbrev pub interruption : Bool → List Reported
 interruption open-there = pick open-there (report18 ∷ []) []
 
 -- a whole system common message reports itself; a status that no record names reports nothing
-abbrev pub heard_common : MaybeSystemCommon → List Reported
-heard_common (g.Some x) = gives (common x) ∷ []
-heard_common g.None = []
+abbrev pub heard_common : Option SystemCommon → List Reported
+heard_common (Some x) = gives (common x) ∷ []
+heard_common None = []
 
 -- a whole channel message, on the channel that the status byte's low four bits name; where the status is no channel status, a system
 -- common one
-abbrev pub heard_message : MaybeChannelMessage → ℕ → ℕ → ℕ → List Reported
-heard_message (c.Some x) status first second = gives (channel (record { 0 = status % 16 }) x) ∷ []
-heard_message c.None status first second = heard_common (common_message status first second)
+abbrev pub heard_message : Option ChannelMessage → ℕ → ℕ → ℕ → List Reported
+heard_message (Some x) status first second = gives (channel (record { 0 = status % 16 }) x) ∷ []
+heard_message None status first second = heard_common (common_message status first second)
 
 -- the message of a status byte and its data bytes; a message of one data byte has no second
 unfoldable pub message : ℕ → ℕ → ℕ → List Reported

@@ -1,14 +1,14 @@
 -- The decoder's call that changes the state in place, as a caller makes it.
-use Rattle.std.specs.Prelude.{List, [], ℕ}
-use Rattle.refusal.specs.Outcome.{Outcome, gives, refused}
+use Rattle.std.specs.Prelude.{List, [], ℕ, Result}
+use Rattle.refusal.specs.Outcome.{Outcome, gives, refused, answered}
 use Rattle.decoder.specs.declared.Decoder.{Decoder}
 use Rattle.decoder.specs.Call.{call}
 use Rattle.decoder.specs.Reports.{report_list, told_all}
-use Rattle.decoder_in_place.specs.declared.by_value.Taken.{Taken}
-use Rattle.decoder_in_place.specs.declared.by_value.TakeAnswer.{TakeAnswer}
-use Rattle.decoder_in_place.specs.InPlace.{taken_told, FeedsInPlace}
+use Rattle.decoder_in_place.specs.declared.Taken.{Taken}
+use Rattle.decoder_in_place.specs.InPlace.{FeedsInPlace}
 use Rattle.damage.specs.Reported.{Reported}
 use Rattle.damage.specs.Caller.{Caller, sole_caller}
+use Rattle.refusal.specs.declared.Refusal.{Refusal}
 
 -- how many bytes a call used, or its refusal
 abbrev pub taken_count : Outcome Taken → Outcome ℕ
@@ -24,6 +24,6 @@ taken_reports (refused n values) store = []
 abbrev pub in_place : Caller
 in_place =
     sole_caller
-    (λ (d : Decoder) (store bytes : List ℕ) (a : TakeAnswer) (next : Decoder) (left : List ℕ). FeedsInPlace (call d store bytes) a d next store left)
-    (λ (a : TakeAnswer). taken_count (taken_told a))
-    (λ (a : TakeAnswer) (store : List ℕ). taken_reports (taken_told a) store)
+    (λ (d : Decoder) (store bytes : List ℕ) (a : Result Taken Refusal) (next : Decoder) (left : List ℕ). FeedsInPlace (call d store bytes) a d next store left)
+    (λ (a : Result Taken Refusal). taken_count (answered a))
+    (λ (a : Result Taken Refusal) (store : List ℕ). taken_reports (answered a) store)

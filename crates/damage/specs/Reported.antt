@@ -1,10 +1,9 @@
 -- A report in document 01's terms.
-use Rattle.std.specs.Prelude.{List, [], ◌∷◌}
+use Rattle.std.specs.Prelude.{List, [], ◌∷◌, None, Option, Some}
 use Rattle.refusal.specs.Outcome.{Outcome, gives, refused}
-use Rattle.wire.specs.declared.real_time.MaybeRealtime.{MaybeRealtime}
-use Rattle.wire.specs.declared.real_time.MaybeRealtime.TheVariants as t
 use Rattle.decoder.specs.State.{limit}
 use Rattle.decoder.specs.Reports.{Event, realtime}
+use Rattle.wire.specs.declared.real_time.Realtime.{Realtime}
 
 -- an event, a frame with its bytes; or 18 or 19 with its values
 abbrev pub Reported : Type 0
@@ -19,6 +18,6 @@ abbrev pub report19 : Reported
 report19 = refused 19 (limit ∷ [])
 
 -- "a real-time byte other than F9 and FD reports itself"
-abbrev pub heard_realtime : MaybeRealtime → List Reported
-heard_realtime (t.Some x) = gives (realtime x) ∷ []
-heard_realtime t.None = []
+abbrev pub heard_realtime : Option Realtime → List Reported
+heard_realtime (Some x) = gives (realtime x) ∷ []
+heard_realtime None = []

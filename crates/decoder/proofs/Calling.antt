@@ -1,4 +1,5 @@
 -- A call is refused with 20, the store as it was, unless the store is long enough and the state sound; then it walks.
+use Rattle.std.specs.Prelude.{Err, Ok}
 use mathlib.Core.Path.{◌≡◌}
 use mathlib.Core.Bool.{true, false}
 use mathlib.Core.List.{List, []}
@@ -11,7 +12,6 @@ use Rattle.refusal.specs.Outcome.{Outcome, gives, refused}
 use Rattle.refusal.specs.declared.Refusal.TheVariants as e
 use Rattle.decoder.specs.declared.Decoder.{Decoder}
 use Rattle.decoder.specs.declared.Fed.{Fed}
-use Rattle.decoder.specs.declared.FeedAnswer.TheVariants as a
 use Rattle.decoder.specs.State.{limit, sound}
 use Rattle.decoder.specs.Call.{Walked, Walks, walk, call, Feeds}
 
@@ -25,9 +25,9 @@ pub ready_walks : (d : Decoder) (store bytes : List ℕ) → limit ≤ length st
 ready_walks d store bytes room h = rw (le-leb limit (length store) room, h)
 
 -- the code's answers
-pub refuses : (o : Outcome Walked) (store : List ℕ) → o ≡ refused 20 [] → Feeds o (a.Err e.BadStore) store store
+pub refuses : (o : Outcome Walked) (store : List ℕ) → o ≡ refused 20 [] → Feeds o (Err e.BadStore) store store
 refuses o store h = record { answers = rw h; leaves = rw h }
 
 pub feeds : (o : Outcome Walked) (w : Walked) (fed : Fed) (store afterwards : List ℕ) → o ≡ gives w → Walks w fed afterwards
-    → Feeds o (a.Ok fed) store afterwards
+    → Feeds o (Ok fed) store afterwards
 feeds o w fed store afterwards h k = record { answers = rw (h, k.told); leaves = rw h k.left }

@@ -1,5 +1,6 @@
 -- A sound state stays sound and the store keeps its length, whatever byte comes, because every state that a byte leaves is cleared,
 -- holds a status that takes data, or has one byte more that was tested to fit.
+use Rattle.std.specs.Prelude.{None, Option, Some}
 use mathlib.Core.Path.{◌≡◌, refl, ap, ◌∙◌}
 use mathlib.Core.Bool.{Bool, true, false, ◌&&◌}
 use mathlib.Core.List.{List}
@@ -12,8 +13,6 @@ use Rattle.laws.specs.Choice.{pick}
 use Rattle.laws.proofs.Tests.{by_test, both}
 use Rattle.wire.proofs.DataLength.{none_of_data, none_of_start, none_above}
 use Rattle.wire.specs.Status.{data_length, is_channel_status}
-use Rattle.decoder.specs.declared.RunningStatus.{RunningStatus}
-use Rattle.decoder.specs.declared.RunningStatus.TheVariants as s
 use Rattle.decoder.specs.declared.Decoder.{Decoder}
 use Rattle.decoder.specs.declared.Class.{Class}
 use Rattle.decoder.specs.declared.Class.TheVariants as k
@@ -91,12 +90,12 @@ longer_sound d h = rw (le-leb 1 (d.len + 1) (omega arith), le-leb (d.len + 1) li
 
 -- a state whose status takes data, if any, and nothing pending
 kept_sound : (v first : ℕ) → 0 < data_length v → waits_soundly (kept v) 0 first ≡ true
-kept_sound v first h = by_test (λ (x : RunningStatus). waits_soundly x 0 first ≡ true) (is_channel_status v) _ _ (λ e. rw (lt-ltb 0 (data_length v) h)) (λ e. refl)
+kept_sound v first h = by_test (λ (x : Option ℕ). waits_soundly x 0 first ≡ true) (is_channel_status v) _ _ (λ e. rw (lt-ltb 0 (data_length v) h)) (λ e. refl)
 
-collect_sound : (d : Decoder) (v : RunningStatus) (b : ℕ) → sound d ≡ true → waits_soundly v d.have d.data0 ≡ true → b < 0x80
+collect_sound : (d : Decoder) (v : Option ℕ) (b : ℕ) → sound d ≡ true → waits_soundly v d.have d.data0 ≡ true → b < 0x80
     → sound (collect v d b).state ≡ true
-collect_sound d s.None b h w r = h
-collect_sound d (s.Status v) b h w r =
+collect_sound d None b h w r = h
+collect_sound d (Some v) b h w r =
     let takes : 0 < data_length v = ltb-true _ _ (both _ _ w).0 in
     let P : Stepped → Type 0 = λ (x : Stepped). sound x.state ≡ true in
     by_test P (eqb d.have 0) _ _

@@ -1,11 +1,10 @@
 -- The loop of a call: what is done so far and the walk over the rest are the whole walk.
-use mathlib.Core.Path.{◌≡◌, refl, sym, ◌∙◌, ap}
+use mathlib.Core.Path.{◌≡◌, sym, ◌∙◌, ap}
 use mathlib.Core.Bool.{true, false}
 use mathlib.Core.List.{List, ◌∷◌}
 use Prim.Native.Nat.{ℕ, suc, ◌+◌, ◌≤◌, ◌<◌}
 use native.Mathlib.Omega.{arith}
 use native.Mathlib.Numerals.{add-one}
-use native.Mathlib.Nat.{zero-add}
 use lib.ListN.{length, drop, get_or, drop_of_length-le}
 use lib.Seq.{drop-cons}
 use Rattle.decoder.specs.declared.Decoder.{Decoder}
@@ -29,13 +28,6 @@ pub record Walking (d₀ : Decoder) (store₀ bytes : List ℕ) (d : Decoder) (s
   pub room : limit ≤ length store
   pub same : length store ≡ length store₀
   pub rest : walk d₀ store₀ bytes ≡ further used (walk d store (drop used bytes))
-
-pub walking_begins : (d : Decoder) (store bytes : List ℕ) → limit ≤ length store → Walking d store bytes d store 0
-walking_begins d store bytes room =
-    record { bound = omega arith; room = room; same = refl; rest = ap (counted w) (sym (zero-add w.fed.used)) }
-  where
-    w : Walked
-    w = walk d store bytes
 
 module _ (d₀ : Decoder) (store₀ bytes : List ℕ) (d : Decoder) (store : List ℕ) (used : ℕ) (i : Walking d₀ store₀ bytes d store used) where
   -- the walk over what is left begins with the next byte
@@ -67,9 +59,9 @@ module _ (d₀ : Decoder) (store₀ bytes : List ℕ) (d : Decoder) (store : Lis
       }
 
   -- no byte is left
-  pub walking_ends : length bytes ≤ used → walk d₀ store₀ bytes ≡ counted (ended d store) used
+  pub walking_ends : length bytes ≤ used → walk d₀ store₀ bytes ≡ counted (ended d store) (length bytes)
   unfolding walk
   walking_ends h = i.rest ∙ ap (λ (l : List ℕ). further used (walk d store l)) (drop_of_length-le bytes h) ∙ ap (counted (ended d store)) all
     where
-      all : used + 0 ≡ used
-      all = omega arith
+      all : used + 0 ≡ length bytes
+      all = omega (arith, i.bound, h)

@@ -1,14 +1,12 @@
 -- One call: bytes are taken until the first that reports.
-use Rattle.std.specs.Prelude.{◌≡◌, Bool, true, false, ◌&&◌, ◌||◌, List, [], ◌∷◌, ℕ, ◌+◌, leb, length}
+use Rattle.std.specs.Prelude.{◌≡◌, Bool, true, false, ◌&&◌, ◌||◌, List, [], ◌∷◌, ℕ, ◌+◌, leb, length, None, Option, Result, Some}
 use Rattle.laws.specs.Choice.{pick}
-use Rattle.refusal.specs.Outcome.{Outcome, gives, refused, refusal, unless}
+use Rattle.refusal.specs.declared.Refusal.{Refusal}
+use Rattle.refusal.specs.Outcome.{Outcome, gives, refused, unless, answered}
+use Rattle.decoder.specs.declared.Report.{Report}
 use Rattle.decoder.specs.declared.Decoder.{Decoder}
-use Rattle.decoder.specs.declared.MaybeReport.{MaybeReport}
-use Rattle.decoder.specs.declared.MaybeReport.TheVariants as m
 use Rattle.decoder.specs.declared.Stepped.{Stepped}
 use Rattle.decoder.specs.declared.Fed.{Fed}
-use Rattle.decoder.specs.declared.FeedAnswer.{FeedAnswer}
-use Rattle.decoder.specs.declared.FeedAnswer.TheVariants as a
 use Rattle.decoder.specs.State.{limit, sound}
 use Rattle.decoder.specs.Step.{step, stored}
 
@@ -18,9 +16,9 @@ pub record Walked : Type 0 where
   pub store : List ℕ
 
 -- is there a report of the byte's own, besides 18?
-abbrev pub some_report : MaybeReport → Bool
-some_report m.None = false
-some_report (m.Some x) = true
+abbrev pub some_report : Option Report → Bool
+some_report None = false
+some_report (Some x) = true
 
 -- does the byte report anything?
 abbrev pub reports : Stepped → Bool
@@ -28,7 +26,7 @@ reports s = s.interrupted || some_report s.report
 
 -- no byte left: nothing used, nothing reported
 abbrev pub ended : Decoder → List ℕ → Walked
-ended d store = record { fed = record { used = 0; state = d; interrupted = false; report = m.None }; store = store }
+ended d store = record { fed = record { used = 0; state = d; interrupted = false; report = None }; store = store }
 
 -- a byte that reports is the last that is used
 abbrev pub stopped : Stepped → List ℕ → Walked
@@ -67,12 +65,7 @@ abbrev pub store_of : Outcome Walked → List ℕ → List ℕ
 store_of (gives w) store = w.store
 store_of (refused n values) store = store
 
--- the code's answer in document 01's terms
-abbrev pub answered : FeedAnswer → Outcome Fed
-answered (a.Ok f) = gives f
-answered (a.Err e) = refusal e
-
 -- the whole of what a call does: its answer, with the state, and every byte of the lent store afterwards
-pub record Feeds (o : Outcome Walked) (answer : FeedAnswer) (before afterwards : List ℕ) : Type 0 where
+pub record Feeds (o : Outcome Walked) (answer : Result Fed Refusal) (before afterwards : List ℕ) : Type 0 where
   pub answers : answered answer ≡ fed_of o
   pub leaves : afterwards ≡ store_of o before

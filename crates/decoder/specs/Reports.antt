@@ -1,5 +1,5 @@
 -- What a report says in document 01's terms: an event, or a drop's number and values.
-use Rattle.std.specs.Prelude.{Bool, true, false, List, [], ◌∷◌, map, ℕ, take}
+use Rattle.std.specs.Prelude.{Bool, true, false, List, [], ◌∷◌, map, ℕ, take, None, Option, Some}
 use Rattle.refusal.specs.Outcome.{Outcome, gives, refusal}
 use Rattle.refusal.specs.declared.Refusal.TheVariants as e
 use Rattle.wire.specs.declared.Channel.{Channel}
@@ -8,8 +8,6 @@ use Rattle.wire.specs.declared.system_common.SystemCommon.{SystemCommon}
 use Rattle.wire.specs.declared.real_time.Realtime.{Realtime}
 use Rattle.decoder.specs.declared.Report.{Report}
 use Rattle.decoder.specs.declared.Report.TheVariants as r
-use Rattle.decoder.specs.declared.MaybeReport.{MaybeReport}
-use Rattle.decoder.specs.declared.MaybeReport.TheVariants as m
 
 -- a whole message; a frame with its bytes
 pub data Event : Type 0 where
@@ -28,12 +26,12 @@ told store r.SysExInterrupted = refusal e.SysExInterrupted
 told store (r.SysExTooLong n) = refusal (e.SysExTooLong n)
 
 -- the byte's own report, if any, as a list
-abbrev pub own_report : MaybeReport → List Report
-own_report m.None = []
-own_report (m.Some x) = x ∷ []
+abbrev pub own_report : Option Report → List Report
+own_report None = []
+own_report (Some x) = x ∷ []
 
 -- a byte's reports in order: 18 where it broke off a frame, then its own effect
-abbrev pub report_list : Bool → MaybeReport → List Report
+abbrev pub report_list : Bool → Option Report → List Report
 report_list true x = r.SysExInterrupted ∷ own_report x
 report_list false x = own_report x
 

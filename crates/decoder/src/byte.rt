@@ -4,83 +4,53 @@ ghost use Rattle.wire.specs.RealTime.{realtime_of};
 ghost use Rattle.decoder.specs.Step.{class_of, message_report, common_report, realtime_report, kept, silent, reporting, too_long, interrupting};
 ghost use Rattle.decoder.specs.Call.{reports};
 
-use crate::{Class, Decoder, MAX_SYSEX_LEN, MaybeReport, Report, RunningStatus, Stepped};
-use wire::{
-    Channel, ChannelMessage, MaybeChannelMessage, MaybeRealtime, MaybeSystemCommon, Realtime,
-    SystemCommon,
-};
+use crate::{Class, Decoder, MAX_SYSEX_LEN, Report, Stepped};
+use wire::{Channel, ChannelMessage, Realtime, SystemCommon};
 
 pub fn class_of(byte: u8) -> Class
     ensures { result ≡ class_of byte }
 {
-    if byte < 0x80 {
-        return Class::Data;
+    match byte {
+        0x00..0x80 => Class::Data,
+        0x80..0xF0 => Class::Held,
+        0xF0 => Class::Start,
+        0xF1..0xF4 => Class::Held,
+        0xF4..0xF6 => Class::Undefined,
+        0xF6 => Class::Tune,
+        0xF7 => Class::End,
+        _ => Class::Realtime,
     }
-    if byte < 0xF0 {
-        return Class::Held;
-    }
-    if byte == 0xF0 {
-        return Class::Start;
-    }
-    if byte < 0xF4 {
-        return Class::Held;
-    }
-    if byte < 0xF6 {
-        return Class::Undefined;
-    }
-    if byte == 0xF6 {
-        return Class::Tune;
-    }
-    if byte == 0xF7 {
-        return Class::End;
-    }
-    Class::Realtime
 }
 
 // A channel status stays in force after its message, another does not.
-pub fn kept(status: u8) -> RunningStatus
+pub fn kept(status: u8) -> Option<u8>
     ensures { result ≡ kept status }
 {
-    if status < 0x80 {
-        return RunningStatus::None;
+    match status {
+        0x80..0xF0 => Some(status),
+        _ => None,
     }
-    if status < 0xF0 {
-        return RunningStatus::Status(status);
-    }
-    RunningStatus::None
 }
 
 // The message of a status byte and its data bytes.
-pub fn message(status: u8, first: u8, second: u8) -> MaybeReport
+pub fn message(status: u8, first: u8, second: u8) -> Option<Report>
     ensures { result ≡ message_report status first second }
 {
-    let found = ChannelMessage::from_bytes(status, first, second);
-    match found {
-        MaybeChannelMessage::Some(message) => MaybeReport::Some(Report::Channel {
+    match ChannelMessage::from_bytes(status, first, second) {
+        Some(message) => Some(Report::Channel {
             channel: Channel(status % 16),
             message,
         }),
-        MaybeChannelMessage::None => common(SystemCommon::from_bytes(status, first, second)),
+        None => SystemCommon::from_bytes(status, first, second).map(|message| {
+            Report::Common(message)
+        }),
     }
 }
 
-pub fn common(found: MaybeSystemCommon) -> MaybeReport
-    ensures { result ≡ common_report found }
-{
-    match found {
-        MaybeSystemCommon::Some(message) => MaybeReport::Some(Report::Common(message)),
-        MaybeSystemCommon::None => MaybeReport::None,
-    }
-}
-
-pub fn realtime(byte: u8) -> MaybeReport
+pub fn realtime(byte: u8) -> Option<Report>
     ensures { result ≡ realtime_report (realtime_of byte) }
 {
-    let found = Realtime::from_status(byte);
-    match found {
-        MaybeRealtime::Some(message) => MaybeReport::Some(Report::Realtime(message)),
-        MaybeRealtime::None => MaybeReport::None,
-    }
+    Realtime::from_status(byte).map(|message| Report::Realtime(message))
 }
 
 pub fn silent(state: Decoder) -> Stepped
@@ -89,7 +59,7 @@ pub fn silent(state: Decoder) -> Stepped
     Stepped {
         state,
         interrupted: false,
-        report: MaybeReport::None,
+        report: None,
     }
 }
 
@@ -99,7 +69,7 @@ pub fn reporting(state: Decoder, report: Report) -> Stepped
     Stepped {
         state,
         interrupted: false,
-        report: MaybeReport::Some(report),
+        report: Some(report),
     }
 }
 
@@ -107,16 +77,15 @@ pub fn reporting(state: Decoder, report: Report) -> Stepped
 pub fn too_long(state: Decoder) -> Stepped
     ensures { result ≡ too_long state }
 {
-    let next = state.cleared();
     Stepped {
-        state: next,
+        state: state.cleared(),
         interrupted: false,
-        report: MaybeReport::Some(Report::SysExTooLong(MAX_SYSEX_LEN)),
+        report: Some(Report::SysExTooLong(MAX_SYSEX_LEN)),
     }
 }
 
 // A status byte below F7 breaks off an open frame.
-pub fn status_byte(state: Decoder, next: Decoder, report: MaybeReport) -> Stepped
+pub fn status_byte(state: Decoder, next: Decoder, report: Option<Report>) -> Stepped
     ensures { result ≡ interrupting state next report }
 {
     Stepped {
@@ -130,12 +99,5 @@ pub fn status_byte(state: Decoder, next: Decoder, report: MaybeReport) -> Steppe
 pub fn reports(done: Stepped) -> bool
     ensures { result ≡ reports done }
 {
-    let report = done.report;
-    if done.interrupted {
-        return true;
-    }
-    match report {
-        MaybeReport::None => false,
-        MaybeReport::Some(_) => true,
-    }
+    done.interrupted || done.report.is_some()
 }

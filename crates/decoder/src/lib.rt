@@ -18,21 +18,16 @@ use wire::{Channel, ChannelMessage, Realtime, SystemCommon};
 // bank: seven bytes of header, version and bank, a run of 2,344, and F7.
 pub const MAX_SYSEX_LEN: usize = 2354;
 
-// The status byte in force, where there is one.
-#[derive(Clone, Copy)]
-pub enum RunningStatus {
-    None,
-    Status(u8),
-}
-
-// What the decoder keeps between two bytes. The bytes of an open frame lie in the lent store.
-#[derive(Clone, Copy)]
+// What the decoder keeps between two bytes. The bytes of an open frame lie in the lent store. The flag stands beside the length, and the count beside
+// the data bytes, since a call takes any such numbers and refuses those that are not sound; a narrower type would ask more of callers.
+#[derive(Clone, Copy, Debug, PartialEq, Eq)]
 pub struct Decoder {
     // bytes of the open frame so far
     pub len: usize,
     // between F0 and the byte that ends the frame
     pub in_sysex: bool,
-    pub status: RunningStatus,
+    // the status byte in force, where there is one
+    pub status: Option<u8>,
     // data bytes that wait for the rest of their message
     pub have: u8,
     pub data0: u8,
@@ -40,7 +35,7 @@ pub struct Decoder {
 }
 
 // What a byte means to the decoder.
-#[derive(Drop)]
+#[derive(Clone, Copy, Debug, PartialEq, Eq)]
 pub enum Class {
     // 00 to 7F
     Data,
@@ -58,7 +53,7 @@ pub enum Class {
     Realtime,
 }
 
-#[derive(Clone, Copy)]
+#[derive(Clone, Copy, Debug, PartialEq, Eq)]
 pub enum Report {
     Channel {
         channel: Channel,
@@ -73,69 +68,22 @@ pub enum Report {
     SysExTooLong(usize),
 }
 
-#[derive(Clone, Copy)]
-pub enum MaybeReport {
-    None,
-    Some(Report),
-}
-
 // What one byte does to the state, and what it reports: SysExInterrupted first, where it broke off a frame, then its own effect.
-#[derive(Clone, Copy)]
+#[derive(Clone, Copy, Debug, PartialEq, Eq)]
 pub struct Stepped {
     pub state: Decoder,
     pub interrupted: bool,
-    pub report: MaybeReport,
+    pub report: Option<Report>,
 }
 
-// What a call did: the bytes that it used, the state after them, and the reports of the last of them.
-#[derive(Drop)]
+// What a call did: the bytes that it used, the state after them, and the reports of the last of them. The flag and the report stand as in Stepped; a
+// struct of the two would put each definition that names them one field further away.
+#[derive(Clone, Copy, Debug, PartialEq, Eq)]
 pub struct Fed {
     pub used: usize,
     pub state: Decoder,
     pub interrupted: bool,
-    pub report: MaybeReport,
-}
-
-#[derive(Drop)]
-pub enum FeedAnswer {
-    Ok(Fed),
-    Err(Refusal),
-}
-
-impl RunningStatus {
-    pub fn is_none(self) -> bool
-        ensures { result ≡ no_status self }
-    {
-        match self {
-            RunningStatus::None => true,
-            RunningStatus::Status(_) => false,
-        }
-    }
-
-    // Are the status and the data bytes that wait for it those of a sound state with no open frame?
-    fn waits_soundly(self, have: u8, data0: u8) -> bool
-        ensures { result ≡ waits_soundly self have data0 }
-    {
-        match self {
-            RunningStatus::None => have == 0,
-            RunningStatus::Status(status) => {
-                let takes = wire::data_len(status);
-                if takes == 0 {
-                    return false;
-                }
-                if have == 0 {
-                    return true;
-                }
-                if have != 1 {
-                    return false;
-                }
-                if 127 < data0 {
-                    return false;
-                }
-                takes == 2
-            }
-        }
-    }
+    pub report: Option<Report>,
 }
 
 impl Decoder {
@@ -145,7 +93,7 @@ impl Decoder {
         Decoder {
             in_sysex: false,
             len: 0,
-            status: RunningStatus::None,
+            status: None,
             have: 0,
             data0: 0,
             data1: 0,
@@ -174,40 +122,40 @@ impl Decoder {
     }
 
     // Takes bytes until the first that reports. The store is lent at every call, as the last one left it. Refuses 20.
-    pub fn feed(self, store: &mut [u8], bytes: &[u8]) -> FeedAnswer
+    pub fn feed(self, store: &mut [u8], bytes: &[u8]) -> Result<Fed, Refusal>
         ensures { Feeds (call self store.old bytes.now) result store.old store.new }
     {
         if store.len() < MAX_SYSEX_LEN {
-            return FeedAnswer::Err(Refusal::BadStore);
+            return Err(Refusal::BadStore);
         }
         if !self.is_sound() {
-            return FeedAnswer::Err(Refusal::BadStore);
+            return Err(Refusal::BadStore);
         }
-        FeedAnswer::Ok(self.walk(store, bytes))
+        Ok(self.walk(store, bytes))
     }
 
     // Document 01's "sound": what a call takes.
     pub fn is_sound(self) -> bool
         ensures { result ≡ sound self }
     {
-        let status = self.status;
-        let len = self.len;
         if self.in_sysex {
-            if len < 1 {
-                return false;
-            }
-            if MAX_SYSEX_LEN < len {
-                return false;
-            }
-            if !status.is_none() {
-                return false;
-            }
-            return self.have == 0;
+            1 <= self.len && self.len <= MAX_SYSEX_LEN && self.status.is_none() && self.have == 0
+        } else {
+            self.len == 0 && self.waits_soundly()
         }
-        if len != 0 {
-            return false;
+    }
+
+    // Are the status and the data bytes that wait for it those of a sound state with no open frame?
+    fn waits_soundly(self) -> bool
+        ensures { result ≡ waits_soundly self.status self.have self.data0 }
+    {
+        match self.status {
+            None => self.have == 0,
+            Some(status) => {
+                let takes = wire::data_len(status);
+                0 < takes && (self.have == 0 || self.have == 1 && self.data0 <= 127 && takes == 2)
+            }
         }
-        status.waits_soundly(self.have, self.data0)
     }
 
     fn cleared(self) -> Decoder
@@ -216,10 +164,9 @@ impl Decoder {
         Decoder {
             in_sysex: false,
             len: 0,
-            status: RunningStatus::None,
+            status: None,
             have: 0,
-            data0: self.data0,
-            data1: self.data1,
+            ..self
         }
     }
 
@@ -230,10 +177,7 @@ impl Decoder {
         Decoder {
             in_sysex: true,
             len: 1,
-            status: RunningStatus::None,
-            have: 0,
-            data0: self.data0,
-            data1: self.data1,
+            ..self.cleared()
         }
     }
 
@@ -245,10 +189,7 @@ impl Decoder {
         Decoder {
             in_sysex: true,
             len: self.len + 1,
-            status: RunningStatus::None,
-            have: 0,
-            data0: self.data0,
-            data1: self.data1,
+            ..self.cleared()
         }
     }
 
@@ -257,12 +198,8 @@ impl Decoder {
         ensures { result ≡ holding self status }
     {
         Decoder {
-            in_sysex: false,
-            len: 0,
-            status: RunningStatus::Status(status),
-            have: 0,
-            data0: self.data0,
-            data1: self.data1,
+            status: Some(status),
+            ..self.cleared()
         }
     }
 
@@ -271,12 +208,9 @@ impl Decoder {
         ensures { result ≡ waiting self status byte }
     {
         Decoder {
-            in_sysex: false,
-            len: 0,
-            status: RunningStatus::Status(status),
             have: 1,
             data0: byte,
-            data1: self.data1,
+            ..self.holding(status)
         }
     }
 
@@ -284,14 +218,11 @@ impl Decoder {
     fn completed(status: u8, first: u8, second: u8) -> Decoder
         ensures { result ≡ completed status first second }
     {
-        let next = byte::kept(status);
         Decoder {
-            in_sysex: false,
-            len: 0,
-            status: next,
-            have: 0,
+            status: byte::kept(status),
             data0: first,
             data1: second,
+            ..Decoder::new()
         }
     }
 
@@ -299,10 +230,9 @@ impl Decoder {
     fn collect(self, byte: u8) -> Stepped
         ensures { result ≡ collect self.status self byte }
     {
-        let now = self.status;
-        match now {
-            RunningStatus::None => byte::silent(self),
-            RunningStatus::Status(status) => {
+        match self.status {
+            None => byte::silent(self),
+            Some(status) => {
                 if self.have != 0 {
                     return Stepped {
                         state: Decoder::completed(status, self.data0, byte),
@@ -340,14 +270,14 @@ impl Decoder {
                 store[at] = byte;
                 byte::silent(self.longer())
             }
-            Class::Held => byte::status_byte(self, self.holding(byte), MaybeReport::None),
+            Class::Held => byte::status_byte(self, self.holding(byte), None),
             Class::Start => {
                 store[0] = byte;
-                byte::status_byte(self, self.opened(), MaybeReport::None)
+                byte::status_byte(self, self.opened(), None)
             }
-            Class::Undefined => byte::status_byte(self, self.cleared(), MaybeReport::None),
+            Class::Undefined => byte::status_byte(self, self.cleared(), None),
             Class::Tune => {
-                let report = MaybeReport::Some(Report::Common(SystemCommon::TuneRequest));
+                let report = Some(Report::Common(SystemCommon::TuneRequest));
                 byte::status_byte(self, self.cleared(), report)
             }
             Class::End => {
@@ -375,28 +305,23 @@ impl Decoder {
         ensures { Walks (walk self store.old bytes.now) result store.new }
     {
         let mut state = self;
-        let mut used: usize = 0;
-        while used < bytes.len() {
-            let byte = bytes[used];
-            let done = state.step(store, byte);
-            used += 1;
-            let next = done.state;
+        for (i, byte) in bytes.iter().enumerate() {
+            let done = state.step(store, *byte);
             if byte::reports(done) {
-                let report = done.report;
                 return Fed {
-                    used,
-                    state: next,
+                    used: i + 1,
+                    state: done.state,
                     interrupted: done.interrupted,
-                    report,
+                    report: done.report,
                 };
             }
-            state = next;
+            state = done.state;
         }
         Fed {
-            used,
+            used: bytes.len(),
             state,
             interrupted: false,
-            report: MaybeReport::None,
+            report: None,
         }
     }
 }

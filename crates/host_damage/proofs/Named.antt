@@ -1,4 +1,5 @@
 -- A channel that the decoder reports is below 16, because it is the low four bits of a status byte.
+use Rattle.std.specs.Prelude.{None, Option, Some}
 use mathlib.Core.List.{List, [], ◌∷◌}
 use Prim.Native.Nat.{ℕ, ◌<◌}
 use native.Mathlib.Omega.{arith}
@@ -8,25 +9,18 @@ use Rattle.wire.specs.Status.{data_length}
 use Rattle.wire.specs.ChannelMessage.{channel_message}
 use Rattle.wire.specs.SystemCommon.{common_message}
 use Rattle.wire.specs.RealTime.{realtime_of}
-use Rattle.wire.specs.declared.channel_message.MaybeChannelMessage.{MaybeChannelMessage}
-use Rattle.wire.specs.declared.channel_message.MaybeChannelMessage.TheVariants as c
-use Rattle.wire.specs.declared.system_common.MaybeSystemCommon.{MaybeSystemCommon}
-use Rattle.wire.specs.declared.system_common.MaybeSystemCommon.TheVariants as g
-use Rattle.wire.specs.declared.real_time.MaybeRealtime.{MaybeRealtime}
-use Rattle.wire.specs.declared.real_time.MaybeRealtime.TheVariants as t
-use Rattle.decoder.specs.declared.RunningStatus.{RunningStatus}
-use Rattle.decoder.specs.declared.RunningStatus.TheVariants as s
 use Rattle.decoder.specs.declared.Decoder.{Decoder}
 use Rattle.decoder.specs.declared.Class.{Class}
 use Rattle.decoder.specs.declared.Class.TheVariants as k
 use Rattle.decoder.specs.declared.Report.{Report}
 use Rattle.decoder.specs.declared.Report.TheVariants as r
-use Rattle.decoder.specs.declared.MaybeReport.{MaybeReport}
-use Rattle.decoder.specs.declared.MaybeReport.TheVariants as m
 use Rattle.decoder.specs.declared.Stepped.{Stepped}
 use Rattle.decoder.specs.State.{limit}
 use Rattle.decoder.specs.Step.{class_of, step_in, step, stored, message_report, or_common, common_report, realtime_report, collect}
 use Rattle.decoder.specs.Call.{Walked, reports, walk}
+use Rattle.wire.specs.declared.system_common.SystemCommon.{SystemCommon}
+use Rattle.wire.specs.declared.channel_message.ChannelMessage.{ChannelMessage}
+use Rattle.wire.specs.declared.real_time.Realtime.{Realtime}
 
 -- a report that names no channel of 16 or more
 abbrev pub NamedReport : Report → Type 0
@@ -37,25 +31,25 @@ NamedReport (r.Realtime x) = Unit {0}
 NamedReport r.SysExInterrupted = Unit {0}
 NamedReport (r.SysExTooLong n) = Unit {0}
 
-abbrev pub Named : MaybeReport → Type 0
-Named m.None = Unit {0}
-Named (m.Some x) = NamedReport x
+abbrev pub Named : Option Report → Type 0
+Named None = Unit {0}
+Named (Some x) = NamedReport x
 
-common_named : (x : MaybeSystemCommon) → Named (common_report x)
-common_named (g.Some x) = tt
-common_named g.None = tt
+common_named : (x : Option SystemCommon) → Named (common_report x)
+common_named (Some x) = tt
+common_named None = tt
 
-realtime_named : (x : MaybeRealtime) → Named (realtime_report x)
-realtime_named (t.Some x) = tt
-realtime_named t.None = tt
+realtime_named : (x : Option Realtime) → Named (realtime_report x)
+realtime_named (Some x) = tt
+realtime_named None = tt
 
 message_named : (v first second : ℕ) → Named (message_report v first second)
 unfolding message_report
 message_named v first second = go (channel_message v first second)
   where
-    go : (x : MaybeChannelMessage) → Named (or_common x v first second)
-    go (c.Some x) = omega arith
-    go c.None = common_named (common_message v first second)
+    go : (x : Option ChannelMessage) → Named (or_common x v first second)
+    go (Some x) = omega arith
+    go None = common_named (common_message v first second)
 
 step_named : (d : Decoder) (b : ℕ) → Named (step d b).report
 unfolding step
@@ -64,9 +58,9 @@ step_named d b = go (class_of b)
     P : Stepped → Type 0
     P x = Named x.report
 
-    collected : (v : RunningStatus) → P (collect v d b)
-    collected s.None = tt
-    collected (s.Status v) =
+    collected : (v : Option ℕ) → P (collect v d b)
+    collected None = tt
+    collected (Some v) =
         by_test P (eqb d.have 0) _ _ (λ e. by_test P (leb (data_length v) 1) _ _ (λ l. message_named v b 0) (λ l. tt)) (λ e. message_named v d.data0 b)
 
     go : (c : Class) → P (step_in c d b)

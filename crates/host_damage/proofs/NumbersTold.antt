@@ -1,4 +1,5 @@
 -- The numbers of an answer say its reports, because kind, status byte and data tell every report apart.
+use Rattle.std.specs.Prelude.{None, Option, Some}
 use mathlib.Core.Path.{◌≡◌, refl, ap}
 use mathlib.Core.Bool.{Bool, true, false}
 use mathlib.Core.List.{List, [], ◌∷◌}
@@ -13,8 +14,6 @@ use Rattle.wire.specs.declared.real_time.Realtime.TheVariants as t
 use Rattle.wire.proofs.ReadBack.{kind}
 use Rattle.decoder.specs.declared.Report.{Report}
 use Rattle.decoder.specs.declared.Report.TheVariants as r
-use Rattle.decoder.specs.declared.MaybeReport.{MaybeReport}
-use Rattle.decoder.specs.declared.MaybeReport.TheVariants as m
 use Rattle.decoder.specs.Reports.{channel, told, report_list, told_all}
 use Rattle.damage.specs.Reported.{Reported, report18}
 use Rattle.stream.specs.declared.FedAnswer.{FedAnswer}
@@ -28,7 +27,7 @@ low k c h = omega arith
 
 -- the numbers of a report
 abbrev numbers : Report → FedAnswer
-numbers z = numbers_of 0 false (m.Some z)
+numbers z = numbers_of 0 false (Some z)
 
 -- a channel message by its status byte and two numbers
 channel_told_lem : (c : Channel) (z : ChannelMessage) → c.0 < 16
@@ -60,13 +59,13 @@ report_told store r.SysExInterrupted n = refl
 report_told store (r.SysExTooLong k) n = refl
 
 -- an answer's reports, 18 first where it broke off a frame
-pub numbers_told : (store : List ℕ) (used : ℕ) (i : Bool) (z : MaybeReport) → Named z → numbers_tell (numbers_of used i z) store ≡ told_all store (report_list i z)
-numbers_told store used true m.None n = refl
-numbers_told store used false m.None n = refl
-numbers_told store used true (m.Some z) n = ap (λ (l : List Reported). report18 ∷ l) (report_told store z n)
-numbers_told store used false (m.Some z) n = report_told store z n
+pub numbers_told : (store : List ℕ) (used : ℕ) (i : Bool) (z : Option Report) → Named z → numbers_tell (numbers_of used i z) store ≡ told_all store (report_list i z)
+numbers_told store used true None n = refl
+numbers_told store used false None n = refl
+numbers_told store used true (Some z) n = ap (λ (l : List Reported). report18 ∷ l) (report_told store z n)
+numbers_told store used false (Some z) n = report_told store z n
 
 -- how many bytes an answer says were used
-pub numbers_counted : (used : ℕ) (i : Bool) (z : MaybeReport) → numbers_count (numbers_of used i z) ≡ gives used
-numbers_counted used i m.None = refl
-numbers_counted used i (m.Some z) = refl
+pub numbers_counted : (used : ℕ) (i : Bool) (z : Option Report) → numbers_count (numbers_of used i z) ≡ gives used
+numbers_counted used i None = refl
+numbers_counted used i (Some z) = refl

@@ -1,17 +1,16 @@
 -- What a host reads from the numbers that `dm_feed` answers, in document 01's terms. Nothing is passed over: numbers that name no report are read
 -- as one that no stream gives, so an answer cannot hide a report by them.
-use Rattle.std.specs.Prelude.{List, [], ◌∷◌, ◌++◌, ℕ, ◌/◌, ◌%◌, eqb, take}
+use Rattle.std.specs.Prelude.{List, [], ◌∷◌, ◌++◌, ℕ, ◌/◌, ◌%◌, eqb, take, None, Option, Some}
 use Rattle.laws.specs.Choice.{pick}
 use Rattle.refusal.specs.Outcome.{Outcome, gives, refused}
 use Rattle.wire.specs.declared.channel_message.ChannelMessage.{ChannelMessage}
 use Rattle.wire.specs.declared.channel_message.ChannelMessage.TheVariants as m
 use Rattle.wire.specs.declared.system_common.SystemCommon.TheVariants as y
-use Rattle.wire.specs.declared.real_time.MaybeRealtime.{MaybeRealtime}
-use Rattle.wire.specs.declared.real_time.MaybeRealtime.TheVariants as t
 use Rattle.wire.specs.RealTime.{realtime_of}
 use Rattle.decoder.specs.Reports.{channel, common, realtime, frame}
 use Rattle.damage.specs.Reported.{Reported, report18}
 use Rattle.stream.specs.declared.FedAnswer.{FedAnswer}
+use Rattle.wire.specs.declared.real_time.Realtime.{Realtime}
 
 -- numbers that name no report, as they are
 abbrev pub unnamed : ℕ → ℕ → ℕ → ℕ → Reported
@@ -41,9 +40,9 @@ common_read status first second =
     (pick (eqb status 0xF6) (gives (common y.TuneRequest)) (unnamed 3 status first second))))
 
 -- kind 4: the status byte is the real-time byte
-abbrev pub realtime_read : MaybeRealtime → ℕ → ℕ → ℕ → Reported
-realtime_read (t.Some x) status first second = gives (realtime x)
-realtime_read t.None status first second = unnamed 4 status first second
+abbrev pub realtime_read : Option Realtime → ℕ → ℕ → ℕ → Reported
+realtime_read (Some x) status first second = gives (realtime x)
+realtime_read None status first second = unnamed 4 status first second
 
 -- the report by its kind, none for 0; a frame is the first bytes of the store as the call left it
 abbrev pub report_read : List ℕ → ℕ → ℕ → ℕ → ℕ → List Reported

@@ -1,4 +1,5 @@
 -- What ends a call in an open frame: the decoder's own step, class by class.
+use Rattle.std.specs.Prelude.{None, Some}
 use mathlib.Core.Path.{◌≡◌, refl, sym, ap, ◌∙◌}
 use mathlib.Core.Bool.{true, false}
 use mathlib.Core.List.{List}
@@ -15,7 +16,6 @@ use Rattle.decoder.specs.declared.Decoder.{Decoder}
 use Rattle.decoder.specs.declared.Class.{Class}
 use Rattle.decoder.specs.declared.Class.TheVariants as k
 use Rattle.decoder.specs.declared.Report.TheVariants as report
-use Rattle.decoder.specs.declared.MaybeReport.TheVariants as o
 use Rattle.decoder.specs.declared.Stepped.{Stepped}
 use Rattle.decoder.specs.State.{limit, cleared}
 use Rattle.decoder.specs.Step.{class_of, step_in, stored_in, reporting, too_long, opened, holding, realtime_report}
@@ -57,34 +57,34 @@ module _ (l : List ℕ) (free : MiddleFree l) (at : ℕ) (store : List ℕ) (b n
   d = open_state at l
 
   -- F0 breaks the frame off and begins another
-  pub start_answers : b ≡ 0xF0 → r ≡ numbers_of n true o.None → later ≡ put_word 257 l 0 → left ≡ set store 0 b → Answers d store b n r later left
+  pub start_answers : b ≡ 0xF0 → r ≡ numbers_of n true None → later ≡ put_word 257 l 0 → left ≡ set store 0 b → Answers d store b n r later left
   start_answers is t e q =
-      answers_by k.Start d store b n r later left (class_is b k.Start is) (record { state = opened d; interrupted = true; report = o.None }) (set store 0 b) refl refl refl t
+      answers_by k.Start d store b n r later left (class_is b k.Start is) (record { state = opened d; interrupted = true; report = None }) (set store 0 b) refl refl refl t
       (e ∙ open_stored l free 1 (omega (arith, room_for_three))) q
 
   -- a status byte that waits for data breaks the frame off
-  pub held_answers : 0x80 ≤ b → b < 0xF4 → (b ≡ 0xF0 → ⊥) → r ≡ numbers_of n true o.None → later ≡ put_middle (held_number b) (put_word 0 l 0) → left ≡ store
+  pub held_answers : 0x80 ≤ b → b < 0xF4 → (b ≡ 0xF0 → ⊥) → r ≡ numbers_of n true None → later ≡ put_middle (held_number b) (put_word 0 l 0) → left ≡ store
       → Answers d store b n r later left
   held_answers low high not t e q =
-      answers_by k.Held d store b n r later left (class_is b k.Held (low, high, not)) (record { state = holding d b; interrupted = true; report = o.None }) store refl refl refl t
+      answers_by k.Held d store b n r later left (class_is b k.Held (low, high, not)) (record { state = holding d b; interrupted = true; report = None }) store refl refl refl t
       (e ∙ held_stored l free at b (omega arith)) q
 
   -- F4 and F5 break the frame off and clear the status
-  pub undefined_answers : 0xF4 ≤ b → b < 0xF6 → r ≡ numbers_of n true o.None → later ≡ put_word 0 l 0 → left ≡ store → Answers d store b n r later left
+  pub undefined_answers : 0xF4 ≤ b → b < 0xF6 → r ≡ numbers_of n true None → later ≡ put_word 0 l 0 → left ≡ store → Answers d store b n r later left
   undefined_answers low high t e q =
       answers_by k.Undefined d store b n r later left (class_is b k.Undefined (low, high))
-      (record { state = cleared d; interrupted = true; report = o.None }) store refl refl refl t
+      (record { state = cleared d; interrupted = true; report = None }) store refl refl refl t
       (e ∙ closed_stored l free at) q
 
   -- F6 breaks the frame off and reports itself
-  pub tune_answers : b ≡ 0xF6 → r ≡ numbers_of n true (o.Some (report.Common y.TuneRequest)) → later ≡ put_word 0 l 0 → left ≡ store → Answers d store b n r later left
+  pub tune_answers : b ≡ 0xF6 → r ≡ numbers_of n true (Some (report.Common y.TuneRequest)) → later ≡ put_word 0 l 0 → left ≡ store → Answers d store b n r later left
   tune_answers is t e q =
       answers_by k.Tune d store b n r later left (class_is b k.Tune is)
-      (record { state = cleared d; interrupted = true; report = o.Some (report.Common y.TuneRequest) }) store refl refl refl t
+      (record { state = cleared d; interrupted = true; report = Some (report.Common y.TuneRequest) }) store refl refl refl t
       (e ∙ closed_stored l free at) q
 
   -- F7 within the limit ends the frame
-  pub end_answers : b ≡ 0xF7 → at < limit → r ≡ numbers_of n false (o.Some (report.SysEx (at + 1))) → later ≡ put_word 0 l 0 → left ≡ set store at b
+  pub end_answers : b ≡ 0xF7 → at < limit → r ≡ numbers_of n false (Some (report.SysEx (at + 1))) → later ≡ put_word 0 l 0 → left ≡ set store at b
       → Answers d store b n r later left
   end_answers is fits t e q =
       let eqs = end_fits d store b refl fits in
@@ -92,18 +92,18 @@ module _ (l : List ℕ) (free : MiddleFree l) (at : ℕ) (store : List ℕ) (b n
       (e ∙ closed_stored l free at) q
 
   -- a data byte, or F7, beyond the limit drops the frame with 19
-  data_beyond : b < 0x80 → limit ≤ at → r ≡ numbers_of n false (o.Some (report.SysExTooLong limit)) → later ≡ put_word 0 l 0 → left ≡ store
+  data_beyond : b < 0x80 → limit ≤ at → r ≡ numbers_of n false (Some (report.SysExTooLong limit)) → later ≡ put_word 0 l 0 → left ≡ store
       → Answers d store b n r later left
   data_beyond low full t e q =
       let eqs = data_over d store b refl full in
       answers_by k.Data d store b n r later left (class_is b k.Data low) (too_long d) store (sym eqs.0) (sym eqs.1) refl t (e ∙ closed_stored l free at) q
 
-  end_beyond : b ≡ 0xF7 → limit ≤ at → r ≡ numbers_of n false (o.Some (report.SysExTooLong limit)) → later ≡ put_word 0 l 0 → left ≡ store → Answers d store b n r later left
+  end_beyond : b ≡ 0xF7 → limit ≤ at → r ≡ numbers_of n false (Some (report.SysExTooLong limit)) → later ≡ put_word 0 l 0 → left ≡ store → Answers d store b n r later left
   end_beyond is full t e q =
       let eqs = end_over d store b refl full in
       answers_by k.End d store b n r later left (class_is b k.End is) (too_long d) store (sym eqs.0) (sym eqs.1) refl t (e ∙ closed_stored l free at) q
 
-  pub beyond_answers : b < 0xF8 → (0x80 ≤ b → b < 0xF7 → ⊥) → limit ≤ at → r ≡ numbers_of n false (o.Some (report.SysExTooLong limit)) → later ≡ put_word 0 l 0 → left ≡ store
+  pub beyond_answers : b < 0xF8 → (0x80 ≤ b → b < 0xF7 → ⊥) → limit ≤ at → r ≡ numbers_of n false (Some (report.SysExTooLong limit)) → later ≡ put_word 0 l 0 → left ≡ store
       → Answers d store b n r later left
   beyond_answers high none full t e q =
       split (ltb b 0x80) (λ u. data_beyond (ltb-true b 0x80 u) full t e q)

@@ -1,4 +1,5 @@
 -- The loop in a frame keeps the walk: a run is stored whole, behind it stands no data byte that still has room, and F9 and FD do nothing.
+use Rattle.std.specs.Prelude.{None}
 use mathlib.Core.Path.{◌≡◌, refl, sym, ap, subst, ◌∙◌}
 use mathlib.Core.Bool.{false}
 use mathlib.Core.Logic.{⊎_elim}
@@ -13,10 +14,9 @@ use Rattle.octets.specs.quick.Data.{data_run}
 use Rattle.octets.proofs.data_bytes.Runs.{run_within, run_more}
 use Rattle.decoder.specs.declared.Decoder.{Decoder}
 use Rattle.decoder.specs.declared.Class.TheVariants as k
-use Rattle.decoder.specs.declared.MaybeReport.TheVariants as o
 use Rattle.decoder.specs.State.{limit}
 use Rattle.decoder.specs.Step.{step, stored, silent}
-use Rattle.decoder.specs.Call.{Walked, walk, further}
+use Rattle.decoder.specs.Call.{Walked}
 use Rattle.decoder.proofs.Classes.{class_is}
 use Rattle.decoder.proofs.Steps.{step_by}
 use Rattle.stream.specs.declared.FedAnswer.{FedAnswer}
@@ -39,11 +39,6 @@ pub record InFrame (w : Walked) (state₀ store₀ bytes state store : List ℕ)
   pub room : limit ≤ length store
   pub fits : at ≤ limit
   pub on : On w bytes (open_state at state₀) store used
-
-pub frame_begins : (start from : ℕ) (state store bytes : List ℕ) → MiddleFree state → limit ≤ length store → start ≤ limit → from ≤ length bytes
-    → InFrame (further from (walk (open_state start state) store (drop from bytes))) state store bytes state store start from
-frame_begins start from state store bytes free room fits within =
-    record { free = free; same = refl; long = refl; room = room; fits = fits; on = record { within = within; rest = refl } }
 
 -- the place right behind a run of n data bytes that was moved
 module _ {w : Walked} {state₀ store₀ bytes state store : List ℕ} {at used : ℕ} (i : InFrame w state₀ store₀ bytes state store at used)
@@ -77,25 +72,19 @@ module _ {w : Walked} {state₀ store₀ bytes state store : List ℕ} {at used 
 
 -- the run, as the code moves it
 module _ {w : Walked} {state₀ store₀ bytes state store : List ℕ} {at used : ℕ} (i : InFrame w state₀ store₀ bytes state store at used)
-    {at' used' : ℕ} {kept : List ℕ} (r : RunMoved at used at' used' store kept bytes) where
-  pub run_moved : InFrame w state₀ store₀ bytes state kept at' used'
-  run_moved =
-      subst (λ (x : ℕ). InFrame w state₀ store₀ bytes state kept x used') (sym r.place)
-      (subst (λ (x : ℕ). InFrame w state₀ store₀ bytes state kept (at + r.count) x) (sym r.next)
-      (behind_run i r.count r.all kept r.moved))
+    {n : ℕ} {kept : List ℕ} (r : RunMoved at used n store kept bytes) where
+  pub run_moved : InFrame w state₀ store₀ bytes state kept (at + n) (used + n)
+  run_moved = behind_run i n r.all kept r.moved
 
-  pub no_room_there : used' < length bytes → get_or bytes used' 0 < 0x80 → limit ≤ at'
-  no_room_there more low =
-      subst (λ (x : ℕ). limit ≤ x) (sym r.place)
-      (full_there i r.count r.all kept r.moved (omega (arith, more, r.next))
-      (subst (λ (x : ℕ). get_or bytes x 0 < 0x80) r.next low))
+  pub no_room_there : used + n < length bytes → get_or bytes (used + n) 0 < 0x80 → limit ≤ at + n
+  no_room_there more low = full_there i n r.all kept r.moved more low
 
 -- in a frame: the end of the bytes or a byte that reports ends the call, and F9 and FD lead on
 module _ {w : Walked} {state₀ store₀ bytes state store : List ℕ} {at used : ℕ} (i : InFrame w state₀ store₀ bytes state store at used) where
   same_open : open_state at state ≡ open_state at state₀
   same_open = ap (open_state at) i.same
 
-  pub frame_ends : used ≡ length bytes → (r : FedAnswer) (later left : List ℕ) → r ≡ numbers_of used false o.None → later ≡ encoded (open_state at state) → left ≡ store
+  pub frame_ends : used ≡ length bytes → (r : FedAnswer) (later left : List ℕ) → r ≡ numbers_of used false None → later ≡ encoded (open_state at state) → left ≡ store
       → Numbered w r later left
   frame_ends e r later left t k q = on_ends w bytes (open_state at state₀) store used i.on e r later left t (k ∙ ap encoded same_open) q
 

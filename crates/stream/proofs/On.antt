@@ -1,5 +1,6 @@
 -- A call on its way: the bytes used so far and the walk over the rest are the whole walk. A byte that reports nothing leads on, one that
 -- reports ends the call, and so does the end of the bytes.
+use Rattle.std.specs.Prelude.{None}
 use mathlib.Core.Path.{◌≡◌, sym, ◌∙◌, ap, subst}
 use mathlib.Core.Bool.{false}
 use mathlib.Core.List.{List, ◌∷◌}
@@ -12,9 +13,7 @@ use lib.Seq.{drop-cons, drop-drop}
 use Rattle.laws.specs.Window.{window}
 use Rattle.octets.specs.quick.Data.{data_run}
 use Rattle.octets.proofs.data_bytes.Runs.{run_within}
-use Rattle.decoder.specs.declared.RunningStatus.TheVariants as s
 use Rattle.decoder.specs.declared.Decoder.{Decoder}
-use Rattle.decoder.specs.declared.MaybeReport.TheVariants as o
 use Rattle.decoder.specs.State.{limit}
 use Rattle.decoder.specs.Step.{step, stored, silent}
 use Rattle.decoder.specs.Call.{Walked, walk, further}
@@ -48,14 +47,14 @@ module _ (w : Walked) (bytes : List ℕ) (d : Decoder) (store : List ℕ) (used 
   on_other r later left n = numbered_as w _ r later left on.rest n
 
   -- a call ends where no byte is left
-  pub on_ends : used ≡ length bytes → (r : FedAnswer) (later left : List ℕ) → r ≡ numbers_of used false o.None → later ≡ encoded d → left ≡ store → Numbered w r later left
+  pub on_ends : used ≡ length bytes → (r : FedAnswer) (later left : List ℕ) → r ≡ numbers_of used false None → later ≡ encoded d → left ≡ store → Numbered w r later left
   unfolding walk
   on_ends e r later left t k q =
       on_other r later left
       (rw (drop_of_length-le bytes {i = used} (omega (arith, e)), add-zero used) (record { told = t; kept = k; store = q }))
 
   -- a run of data bytes with no status in force
-  pub on_stray : d.in_sysex ≡ false → d.status ≡ s.None → (n : ℕ) → n ≤ data_run (drop used bytes) → On w bytes d store (used + n)
+  pub on_stray : d.in_sysex ≡ false → d.status ≡ None → (n : ℕ) → n ≤ data_run (drop used bytes) → On w bytes d store (used + n)
   on_stray p q n h =
       record {
         within = omega (arith, on.within, h, run_within (drop used bytes), length-drop used bytes);

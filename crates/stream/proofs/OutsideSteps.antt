@@ -1,4 +1,5 @@
 -- What each byte does outside a frame, to a state known by its numbers: the decoder's own step, class by class.
+use Rattle.std.specs.Prelude.{None, Option, Some}
 use mathlib.Core.Path.{◌≡◌, refl, sym, ap, ◌∙◌}
 use mathlib.Core.Bool.{Bool, true, false, ◌&&◌, ◌||◌}
 use mathlib.Core.List.{List}
@@ -11,12 +12,9 @@ use Rattle.laws.specs.Choice.{pick}
 use Rattle.laws.proofs.Tests.{split, both}
 use Rattle.wire.specs.Status.{data_length}
 use Rattle.wire.specs.declared.system_common.SystemCommon.TheVariants as y
-use Rattle.decoder.specs.declared.RunningStatus.TheVariants as s
 use Rattle.decoder.specs.declared.Decoder.{Decoder}
 use Rattle.decoder.specs.declared.Class.TheVariants as k
 use Rattle.decoder.specs.declared.Report.TheVariants as report
-use Rattle.decoder.specs.declared.MaybeReport.{MaybeReport}
-use Rattle.decoder.specs.declared.MaybeReport.TheVariants as maybe
 use Rattle.decoder.specs.declared.Stepped.{Stepped}
 use Rattle.decoder.specs.State.{sound, waits_soundly, cleared}
 use Rattle.decoder.specs.Step.{step, stored, silent, opened, completed, collect, message_report}
@@ -32,9 +30,10 @@ use Rattle.stream.specs.quick.Going.{Answers, Under, FrontFree}
 use Rattle.stream.proofs.Told.{message_some}
 use Rattle.stream.proofs.Stores.{closed_of, closed_by, waiting_stored}
 use Rattle.stream.proofs.FrameSteps.{answers_by}
+use Rattle.decoder.specs.declared.Report.{Report}
 
 -- a status and what is pending, by their number
-pub status_known : (x h a z m : ℕ) → x < 256 → h < 256 → m ≡ 256 + 65_536 * x + 16_777_216 * h → closed_by m a z ≡ closed_of (s.Status x) h a z
+pub status_known : (x h a z m : ℕ) → x < 256 → h < 256 → m ≡ 256 + 65_536 * x + 16_777_216 * h → closed_by m a z ≡ closed_of (Some x) h a z
 status_known x h a z m p q e =
     let status : status_in m ≡ x = omega arith in
     let pending : m / 16_777_216 ≡ h = omega arith in
@@ -47,7 +46,7 @@ pub record Outside (m a z : ℕ) : Type 0 where
 
 -- a closed state whose number is not 0 has a status that takes data
 pub record Force (m a z : ℕ) : Type 0 where
-  pub is : closed_by m a z ≡ closed_of (s.Status (status_in m)) (m / 16_777_216) a z
+  pub is : closed_by m a z ≡ closed_of (Some (status_in m)) (m / 16_777_216) a z
   pub takes : 0 < data_length (status_in m)
   pub number : m ≡ 256 + 65_536 * status_in m + 16_777_216 * (m / 16_777_216)
   pub pending : 16_777_216 ≤ m → (m / 16_777_216 ≡ 1) × (a < 0x80) × (data_length (status_in m) ≡ 2)
@@ -55,8 +54,8 @@ pub record Force (m a z : ℕ) : Type 0 where
 pub force : (m a z : ℕ) → Outside m a z → (m ≡ 0 → ⊥) → Force m a z
 force m a z o h =
     let n : eqb m 0 ≡ false = ne_eqb m 0 h in
-    let waits : waits_soundly (s.Status (status_in m)) (m / 16_777_216) a ≡ true =
-    ap (λ (t : Bool). waits_soundly (pick t s.None (s.Status (status_in m))) (m / 16_777_216) a) (sym n) ∙ (closed_part (closed_by m a z) o.fine refl).1 in
+    let waits : waits_soundly (Some (status_in m)) (m / 16_777_216) a ≡ true =
+    ap (λ (t : Bool). waits_soundly (pick t None (Some (status_in m))) (m / 16_777_216) a) (sym n) ∙ (closed_part (closed_by m a z) o.fine refl).1 in
     let p = both (ltb 0 (data_length (status_in m))) _ waits in
     record {
       is = rw n refl;
@@ -77,10 +76,10 @@ force m a z o h =
 pub outside_stored : (l : List ℕ) → FrontFree l → (m a : ℕ) → Outside m a (get_or l 13 0) → put_waiting m a l ≡ encoded (closed_by m a (get_or l 13 0))
 outside_stored l free m a o =
     split (eqb m 0)
-    (λ t. waiting_stored l free s.None 0 a m (omega arith) (omega arith) (omega (arith, eqb-true m 0 t)) ∙ sym (ap encoded (none (eqb-true m 0 t))))
+    (λ t. waiting_stored l free None 0 a m (omega arith) (omega arith) (omega (arith, eqb-true m 0 t)) ∙ sym (ap encoded (none (eqb-true m 0 t))))
     (λ t. some (eqb-false m 0 t))
   where
-    none : m ≡ 0 → closed_by m a (get_or l 13 0) ≡ closed_of s.None 0 a (get_or l 13 0)
+    none : m ≡ 0 → closed_by m a (get_or l 13 0) ≡ closed_of None 0 a (get_or l 13 0)
     none e = rw e refl
 
     few : Force m a (get_or l 13 0) → m / 16_777_216 < 256
@@ -89,7 +88,7 @@ outside_stored l free m a o =
     some : (m ≡ 0 → ⊥) → put_waiting m a l ≡ encoded (closed_by m a (get_or l 13 0))
     some h =
         let f = force m a (get_or l 13 0) o h in
-        waiting_stored l free (s.Status (status_in m)) (m / 16_777_216) a m (omega arith) (few f) f.number ∙ sym (ap encoded f.is)
+        waiting_stored l free (Some (status_in m)) (m / 16_777_216) a m (omega arith) (few f) f.number ∙ sym (ap encoded f.is)
 
 -- a byte that reports nothing leads to other numbers
 pub record Leads (m a z b m' a' : ℕ) (store : List ℕ) : Type 0 where
@@ -147,7 +146,7 @@ module _ (m a z b : ℕ) (store : List ℕ) (o : Outside m a z) where
       let more : m + 16_777_216 ≡ 256 + 65_536 * status_in m + 16_777_216 * 1 = omega (arith, f.number, free) in
       let known = status_known (status_in m) 1 b z (m + 16_777_216) (omega arith) (omega arith) more in
       let eqs = data_plain d store b refl in
-      let waits : silent (closed_of (s.Status (status_in m)) 1 b z) ≡ collect d.status d b =
+      let waits : silent (closed_of (Some (status_in m)) 1 b z) ≡ collect d.status d b =
       sym (ap (λ (e : Decoder). collect e.status e b) f.is ∙ rw (eq-eqb (m / 16_777_216) 0 free, two) refl) in
       leads m a z b (m + 16_777_216) b store o
       (step_by k.Data d store b (class_is b k.Data low) (silent (closed_by (m + 16_777_216) b z)) store (ap silent known ∙ waits ∙ sym eqs.0) (sym eqs.1))
@@ -168,13 +167,6 @@ status_back m h = omega arith
 module _ (m a z : ℕ) (o : Outside m a z) (n : m ≡ 0 → ⊥) where
   pub takes_some : 0 < data_length (status_in m)
   takes_some = (force m a z o n).takes
-
-  pub under_pending : 16_777_216 ≤ m → Under (m - 16_777_216) 2 × (a < 0x80)
-  under_pending h =
-      let f = force m a z o n in
-      let p = f.pending h in
-      let same = status_back m h in
-      ((omega (arith, f.number, p.0, same), ap data_length same ∙ p.2), p.1)
 
   module _ (h : m < 16_777_216) where
     alone : m ≡ held_number (status_in m)
@@ -197,18 +189,18 @@ module _ (l : List ℕ) (free : FrontFree l) (m a b n : ℕ) (out : Outside m a 
   e = closed_by m a (get_or l 13 0)
 
   -- F6 reports a tune request and clears the status
-  pub tune_ends : b ≡ 0xF6 → r ≡ numbers_of n false (maybe.Some (report.Common y.TuneRequest)) → later ≡ put_waiting 0 a l → Answers e store b n r later store
+  pub tune_ends : b ≡ 0xF6 → r ≡ numbers_of n false (Some (report.Common y.TuneRequest)) → later ≡ put_waiting 0 a l → Answers e store b n r later store
   tune_ends is t q =
       answers_by k.Tune e store b n r later store (class_is b k.Tune is)
-      (record { state = cleared e; interrupted = false; report = maybe.Some (report.Common y.TuneRequest) }) store refl refl refl t
-      (q ∙ waiting_stored l free s.None 0 a 0 (omega arith) (omega arith) refl) refl
+      (record { state = cleared e; interrupted = false; report = Some (report.Common y.TuneRequest) }) store refl refl refl t
+      (q ∙ waiting_stored l free None 0 a 0 (omega arith) (omega arith) refl) refl
 
   module _ (low : b < 0x80) (h : m ≡ 0 → ⊥) where
     f : Force m a (get_or l 13 0)
     f = force m a (get_or l 13 0) out h
 
-    whole : (x z : ℕ) (w : MaybeReport) → record { state = completed (status_in m) x z; interrupted = false; report = w } ≡ collect
-        (s.Status (status_in m)) (closed_of (s.Status (status_in m)) (m / 16_777_216) a (get_or l 13 0)) b
+    whole : (x z : ℕ) (w : Option Report) → record { state = completed (status_in m) x z; interrupted = false; report = w } ≡ collect
+        (Some (status_in m)) (closed_of (Some (status_in m)) (m / 16_777_216) a (get_or l 13 0)) b
         → some_report w ≡ true → r ≡ numbers_of n false w → later ≡ encoded (completed (status_in m) x z) → Answers e store b n r later store
     whole x z w c some t q =
         let eqs = data_plain e store b refl in

@@ -1,27 +1,27 @@
 -- The loop outside a frame keeps the walk: each byte that reports nothing leads to the numbers of the state behind it, and F0 to a frame.
+use Rattle.std.specs.Prelude.{None, Option, Some}
 use mathlib.Core.Path.{◌≡◌, refl, sym, ap, ap₂, subst, ◌∙◌}
 use mathlib.Core.Bool.{Bool, true, false, ◌&&◌, ◌||◌}
 use mathlib.Core.List.{List}
 use Prim.Native.Nat.{ℕ, ◌+◌, ◌/◌, ◌%◌, ◌≤◌, ◌<◌}
 use native.Mathlib.Omega.{arith}
 use lib.Dec.{ltb, leb, eqb}
-use lib.ListN.{length, drop, get_or, set, length-set}
+use lib.ListN.{length, take, drop, get_or, set, length-set}
 use borrow.Author.Tests.{eq-eqb, eqb-true, ltb-true}
 use Rattle.laws.specs.Choice.{pick}
 use Rattle.laws.proofs.Tests.{split, both, true_is_not_false}
+use Rattle.octets.specs.quick.Data.{data_run}
 use Rattle.octets.specs.quick.Words.{put_word}
+use Rattle.octets.proofs.data_bytes.Runs.{run_take}
 use Rattle.wire.specs.Status.{data_length}
 use Rattle.wire.specs.RealTime.{realtime_of}
 use Rattle.wire.specs.declared.system_common.SystemCommon.TheVariants as y
-use Rattle.decoder.specs.declared.RunningStatus.{RunningStatus}
-use Rattle.decoder.specs.declared.RunningStatus.TheVariants as s
 use Rattle.decoder.specs.declared.Decoder.{Decoder}
 use Rattle.decoder.specs.declared.Class.TheVariants as k
 use Rattle.decoder.specs.declared.Report.TheVariants as report
-use Rattle.decoder.specs.declared.MaybeReport.TheVariants as o
 use Rattle.decoder.specs.State.{limit, sound, no_status, waits_soundly}
 use Rattle.decoder.specs.Step.{silent, opened, collect, realtime_report}
-use Rattle.decoder.specs.Call.{Walked, walk, further}
+use Rattle.decoder.specs.Call.{Walked, walk}
 use Rattle.decoder.proofs.Classes.{class_is}
 use Rattle.decoder.proofs.Steps.{data_plain, step_by}
 use Rattle.decoder.proofs.Limit.{room_for_three}
@@ -30,10 +30,10 @@ use Rattle.stream.specs.declared.FedAnswer.{FedAnswer}
 use Rattle.stream.specs.State.{encoded, state_of}
 use Rattle.stream.specs.Reports.{numbers_of}
 use Rattle.stream.specs.quick.Bytes.{is_realtime, waiting_number, put_middle, put_waiting, open_state}
-use Rattle.stream.specs.quick.Going.{Numbered, Answers, FrontFree, MiddleFree, Ready, Skipped}
+use Rattle.stream.specs.quick.Going.{Numbered, Answers, FrontFree, MiddleFree, Ready}
 use Rattle.stream.proofs.StateBytes.{fourteen}
 use Rattle.stream.proofs.Tests.{limit_small}
-use Rattle.stream.proofs.On.{On, on_begins, on_other, on_ends, on_stray, on_quiet, on_answers}
+use Rattle.stream.proofs.On.{On, on_begins, on_ends, on_stray, on_quiet, on_answers}
 use Rattle.stream.proofs.Stores.{closed_of, closed_by, waiting_cleared}
 use Rattle.stream.proofs.FrameSteps.{realtime_answers}
 use Rattle.stream.proofs.InFrame.{unnamed_quiet}
@@ -65,12 +65,12 @@ pub record Reached (w : Walked) (state₀ store₀ bytes state store : List ℕ)
 closed_shape : (d : Decoder) → d.in_sysex ≡ false → d.len ≡ 0 → d ≡ closed_of d.status d.have d.data0 d.data1
 closed_shape d p q = ap₂ (λ (b : Bool) (n : ℕ). record { in_sysex = b; len = n; status = d.status; have = d.have; data0 = d.data0; data1 = d.data1 }) p q
 
-by_number : (v : RunningStatus) (h a z : ℕ) → waits_soundly v h a ≡ true → closed_by (waiting_number (closed_of v h a z)) a z ≡ closed_of v h a z
-by_number s.None h a z w = rw (eqb-true h 0 w) refl
-by_number (s.Status x) h a z w =
+by_number : (v : Option ℕ) (h a z : ℕ) → waits_soundly v h a ≡ true → closed_by (waiting_number (closed_of v h a z)) a z ≡ closed_of v h a z
+by_number None h a z w = rw (eqb-true h 0 w) refl
+by_number (Some x) h a z w =
     let p = both (ltb 0 (data_length x)) _ w in
     let r = takes_data_held x (ltb-true 0 (data_length x) p.0) in
-    status_known x h a z (waiting_number (closed_of (s.Status x) h a z)) (omega (arith, r.1)) (few p.1) (omega arith)
+    status_known x h a z (waiting_number (closed_of (Some x) h a z)) (omega (arith, r.1)) (few p.1) (omega arith)
   where
     few : (eqb h 0 || (eqb h 1 && (leb a 127 && eqb (data_length x) 2))) ≡ true → h < 256
     few e = split (eqb h 0) (λ t. omega (arith, eqb-true h 0 t))
@@ -109,15 +109,15 @@ open_begins entry l store bytes is long fine entry-is opens =
       on = subst (λ (x : Decoder). On (walk d store bytes) bytes x store 0) (sym same) (on_begins d store bytes);
     }
   where
-    none : (v : RunningStatus) → no_status v ≡ true → v ≡ s.None
-    none s.None e = refl
-    none (s.Status b) e = absurd (true_is_not_false (sym e))
+    none : (v : Option ℕ) → no_status v ≡ true → v ≡ None
+    none None e = refl
+    none (Some b) e = absurd (true_is_not_false (sym e))
 
-    shape : (d : Decoder) (n : ℕ) → d.in_sysex ≡ true → d.len ≡ n → d.status ≡ s.None → d.have ≡ 0
-        → d ≡ record { in_sysex = true; len = n; status = s.None; have = 0; data0 = d.data0; data1 = d.data1 }
+    shape : (d : Decoder) (n : ℕ) → d.in_sysex ≡ true → d.len ≡ n → d.status ≡ None → d.have ≡ 0
+        → d ≡ record { in_sysex = true; len = n; status = None; have = 0; data0 = d.data0; data1 = d.data1 }
     shape d n p q r t =
         ap₂ (λ (b : Bool) (n : ℕ). record { in_sysex = b; len = n; status = d.status; have = d.have; data0 = d.data0; data1 = d.data1 }) p q
-        ∙ ap₂ (λ (v : RunningStatus) (h : ℕ). record { in_sysex = true; len = n; status = v; have = h; data0 = d.data0; data1 = d.data1 }) r t
+        ∙ ap₂ (λ (v : Option ℕ) (h : ℕ). record { in_sysex = true; len = n; status = v; have = h; data0 = d.data0; data1 = d.data1 }) r t
 
 -- where a call begins the walk has come to the state that the numbers say
 pub walk_begins : (entry m a : ℕ) (l store bytes : List ℕ) → Ready entry m a l store → Reached (walk (state_of l) store bytes) l store bytes l store entry m a 0
@@ -154,11 +154,6 @@ waiting_length : (w a : ℕ) (l : List ℕ) → length (put_waiting w a l) ≡ l
 waiting_length w a l = simp length-set refl
 
 module _ {w : Walked} {state₀ store₀ bytes state store : List ℕ} {at m a i : ℕ} (r : Reached w state₀ store₀ bytes state store at m a i) where
-  -- in a frame, the rest by another function
-  pub open_ends : (at ≡ 0 → ⊥) → (x : FedAnswer) (later left : List ℕ) → Numbered (further i (walk (open_state at state) store (drop i bytes))) x later
-      left → Numbered w x later left
-  open_ends n x later left z = on_other w bytes (open_state at state) store i (r.inside n).on x later left z
-
   module _ (none : at ≡ 0) where
     here : Closed w bytes state store m a i
     here = r.outside none
@@ -180,7 +175,7 @@ module _ {w : Walked} {state₀ store₀ bytes state store : List ℕ} {at m a i
         }
 
     -- no byte is left
-    pub outside_ends : i ≡ length bytes → (x : FedAnswer) (later left : List ℕ) → x ≡ numbers_of i false o.None → later ≡ put_waiting m a state → left ≡
+    pub outside_ends : i ≡ length bytes → (x : FedAnswer) (later left : List ℕ) → x ≡ numbers_of i false None → later ≡ put_waiting m a state → left ≡
         store → Numbered w x later left
     outside_ends e x later left t q l =
         on_ends w bytes (closed_by m a (get_or state 13 0)) store i here.on e x later left t (q ∙ outside_stored state here.free m a here.numbers) l
@@ -204,7 +199,7 @@ module _ {w : Walked} {state₀ store₀ bytes state store : List ℕ} {at m a i
           (q ∙ outside_stored state here.free m a here.numbers) refl)
 
       pub outside_tune : get_or bytes i 0 ≡ 0xF6 → (x : FedAnswer) (later left : List ℕ) → x ≡ numbers_of (i + 1) false
-          (o.Some (report.Common y.TuneRequest)) → later ≡ put_waiting 0 a state
+          (Some (report.Common y.TuneRequest)) → later ≡ put_waiting 0 a state
           → left ≡ store → Numbered w x later left
       outside_tune is x later left t q l =
           outside_answers x later left l (tune_ends state here.free m a (get_or bytes i 0) (i + 1) here.numbers x later store is t q)
@@ -222,17 +217,16 @@ module _ {w : Walked} {state₀ store₀ bytes state store : List ℕ} {at m a i
           (on_quiet w bytes (closed_by m a (get_or state 13 0)) store i here.on more (closed_by m a (get_or state 13 0)) store q.0 q.1)
 
       -- stray data bytes are passed over
-      pub stray_on : get_or bytes i 0 < 0x80 → m ≡ 0 → (j : ℕ) → Skipped (i + 1) j bytes → Reached w state₀ store₀ bytes state store at m a j
-      stray_on low e j skipped =
+      pub stray_on : get_or bytes i 0 < 0x80 → m ≡ 0 → (most n : ℕ) → n ≡ data_run (take most (drop (i + 1) bytes)) → Reached w state₀ store₀ bytes state store at m a (i + 1 + n)
+      stray_on low e most n run =
           let d = closed_by m a (get_or state 13 0) in
-          let nothing : (closed_by m a (get_or state 13 0)).status ≡ s.None = rw (eq-eqb m 0 e) in
+          let nothing : (closed_by m a (get_or state 13 0)).status ≡ None = rw (eq-eqb m 0 e) in
           let eqs = data_plain d store (get_or bytes i 0) refl in
           let q = step_by k.Data d store (get_or bytes i 0) (class_is (get_or bytes i 0) k.Data low) (silent d) store
-          (ap (λ (v : RunningStatus). collect v d (get_or bytes i 0)) (sym nothing) ∙ sym eqs.0) (sym eqs.1) in
+          (ap (λ (v : Option ℕ). collect v d (get_or bytes i 0)) (sym nothing) ∙ sym eqs.0) (sym eqs.1) in
           let one = on_quiet w bytes d store i here.on more d store q.0 q.1 in
-          let all = on_stray w bytes d store (i + 1) one refl nothing skipped.count skipped.run in
-          let there = subst (λ (n : ℕ). On w bytes d store n) (sym skipped.place) all in
-          still m a j there.within here.numbers there
+          let all = on_stray w bytes d store (i + 1) one refl nothing n (omega (arith, run, run_take (drop (i + 1) bytes) most)) in
+          still m a (i + 1 + n) all.within here.numbers all
 
       -- F0 leads on to a frame
       pub opens_on : get_or bytes i 0 ≡ 0xF0 → (state' store' : List ℕ) → state' ≡ put_waiting 0 a state → store' ≡ set store 0 (get_or bytes i 0)

@@ -1,5 +1,6 @@
 -- Three numbers and the first data byte tell whether a call takes a state, because they are put together of the state's bytes, and the bytes can
 -- be told from them.
+use Rattle.std.specs.Prelude.{Some}
 use mathlib.Core.Path.{◌≡◌, refl, ap, sym, ◌∙◌}
 use mathlib.Core.Bool.{Bool, true, false, ◌&&◌}
 use mathlib.Core.List.{List, []}
@@ -11,7 +12,6 @@ use borrow.Author.Tests.{eq-eqb, ne_eqb, le-leb, eqb-true, eqb-false, leb-true}
 use Rattle.laws.specs.Choice.{pick}
 use Rattle.laws.proofs.Tests.{split, both, true_is_not_false}
 use Rattle.refusal.specs.Outcome.{gives, refused}
-use Rattle.decoder.specs.declared.RunningStatus.TheVariants as s
 use Rattle.decoder.specs.State.{limit, sound, waits_soundly}
 use Rattle.decoder.specs.Call.{Walked, walk}
 use Rattle.decoder.proofs.Calling.{short_refused, unsound_refused, ready_walks}
@@ -24,16 +24,13 @@ use Rattle.stream.proofs.StateBytes.{written_back, status_back}
 use Rattle.stream.proofs.Tests.{limit_small}
 
 -- what a refused call and one that walks come to
-pub refused_so : (state store bytes : List ℕ) (r : FedAnswer) → feed_call state store bytes ≡ refused 20 [] → r ≡ refused_feed 20
-    → StreamFed (feed_call state store bytes) r state state store store
-refused_so state store bytes r e t = rw e (record { answers = t; keeps = refl; leaves = refl })
+pub refused_so : (state later store bytes : List ℕ) (r : FedAnswer) → later ≡ state → feed_call state store bytes ≡ refused 20 [] → r ≡ refused_feed 20
+    → StreamFed (feed_call state store bytes) r state later store store
+refused_so state later store bytes r same e t = rw e (record { answers = t; keeps = same; leaves = refl })
 
 pub walked_so : (state store bytes : List ℕ) (w : Walked) (r : FedAnswer) (later left : List ℕ) → feed_call state store bytes ≡ gives w → Numbered w r later left
     → StreamFed (feed_call state store bytes) r state later store left
 walked_so state store bytes w r later left e n = rw e (record { answers = n.told; keeps = n.kept; leaves = n.store })
-
-pub no_state : (state store bytes : List ℕ) → (length state ≡ 14 → ⊥) → feed_call state store bytes ≡ refused 20 []
-no_state state store bytes h = rw (ne_eqb (length state) 14 h)
 
 pub short_store : (state store bytes : List ℕ) → length store < limit → feed_call state store bytes ≡ refused 20 []
 short_store state store bytes h = split (is_state state) (λ t. rw t (short_refused (state_of state) store bytes h)) (λ t. rw t)
@@ -77,7 +74,7 @@ module _ (l : List ℕ) (long : length l ≡ 14) (bytes : (i : ℕ) → get_or l
 
   waiting_says : F ≡ 0 → H ≡ 0 → waiting_taken M (get_or l 12 0) ≡ true → Says
   waiting_says f h t =
-      let p = both (eqb (M % 65_536) 256) (waits_soundly (s.Status (status_in M)) (M / 16_777_216) (get_or l 12 0)) t in
+      let p = both (eqb (M % 65_536) 256) (waits_soundly (Some (status_in M)) (M / 16_777_216) (get_or l 12 0)) t in
       let low : M % 65_536 ≡ 256 = eqb-true (M % 65_536) 256 p.0 in
       let frame : get_or l 0 0 ≡ 0 = omega (arith, f) in
       let d = digits_of (get_or l 8 0) (get_or l 9 0) (get_or l 10 0) (get_or l 11 0) (bytes 8) (bytes 9) (bytes 10) in
@@ -162,7 +159,7 @@ module _ (l : List ℕ) (long : length l ≡ 14) (bytes : (i : ℕ) → get_or l
   none_taken frame flag none pending zero =
       rw (eq-eqb H 0 (omega (arith, zero)), eq-eqb F 0 (omega (arith, zero, frame)), eq-eqb M 0 (omega (arith, zero, flag, none, pending)))
 
-  status_taken : get_or l 0 0 ≡ 0 → get_or l 9 0 ≡ 1 → state_length l ≡ 0 → waits_soundly (s.Status (get_or l 10 0)) (get_or l 11 0) (get_or l 12 0) ≡ true
+  status_taken : get_or l 0 0 ≡ 0 → get_or l 9 0 ≡ 1 → state_length l ≡ 0 → waits_soundly (Some (get_or l 10 0)) (get_or l 11 0) (get_or l 12 0) ≡ true
       → taken F H M (get_or l 12 0) ≡ true
   status_taken frame flag zero waits =
       let top : get_or l 8 0 ≡ 0 = omega (arith, zero) in
@@ -194,7 +191,7 @@ module _ (l : List ℕ) (long : length l ≡ 14) (bytes : (i : ℕ) → get_or l
 
       closed_held : get_or l 0 0 ≡ 0 → eqb (get_or l 0 0) 1 ≡ false → get_or l 9 0 ≡ 1 → eqb (get_or l 9 0) 1 ≡ true → taken F H M (get_or l 12 0) ≡ true
       closed_held frame f flag g =
-          let a = both (eqb (state_length l) 0) (waits_soundly (s.Status (get_or l 10 0)) (get_or l 11 0) (get_or l 12 0)) (rw (f, g) at fine) in
+          let a = both (eqb (state_length l) 0) (waits_soundly (Some (get_or l 10 0)) (get_or l 11 0) (get_or l 12 0)) (rw (f, g) at fine) in
           status_taken frame flag (eqb-true (state_length l) 0 a.0) a.1
 
       opened : eqb (get_or l 0 0) 1 ≡ true → eqb (get_or l 9 0) 1 ≡ false → get_or l 9 0 ≡ 0 → get_or l 10 0 ≡ 0 → taken F H M (get_or l 12 0) ≡ true

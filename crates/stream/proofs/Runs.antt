@@ -1,5 +1,6 @@
 -- A run of data bytes may be taken at once, because each of them does the same: in an open frame it is stored behind the last, and with no
 -- status in force it changes nothing.
+use Rattle.std.specs.Prelude.{None, Option}
 use mathlib.Core.Path.{◌≡◌, refl, sym, ◌∙◌, ap, ap₂}
 use mathlib.Core.Bool.{true, false}
 use mathlib.Core.List.{List, [], ◌∷◌}
@@ -11,8 +12,6 @@ use Rattle.laws.specs.Window.{window}
 use Rattle.laws.proofs.Window.{window_none, window_more, window_after}
 use Rattle.octets.specs.quick.Data.{data_run}
 use Rattle.octets.proofs.data_bytes.Runs.{run_none, by_byte}
-use Rattle.decoder.specs.declared.RunningStatus.{RunningStatus}
-use Rattle.decoder.specs.declared.RunningStatus.TheVariants as s
 use Rattle.decoder.specs.declared.Decoder.{Decoder}
 use Rattle.decoder.specs.declared.Class.TheVariants as k
 use Rattle.decoder.specs.State.{limit}
@@ -52,7 +51,7 @@ no_more n l = simp length-take (omega arith)
 
 -- an open frame of n bytes with these data bytes
 abbrev pub open_of : ℕ → ℕ → ℕ → Decoder
-open_of n a z = record { in_sysex = true; len = n; status = s.None; have = 0; data0 = a; data1 = z }
+open_of n a z = record { in_sysex = true; len = n; status = None; have = 0; data0 = a; data1 = z }
 
 -- a data byte in an open frame that has room is stored behind the last
 frame_byte : (at a z : ℕ) (store : List ℕ) (b : ℕ) (bs : List ℕ) → at < limit → b < 0x80
@@ -78,15 +77,15 @@ frame_run (suc n) at a z store (b ∷ bs) h l room =
     (λ _ e. absurd (omega (arith, e, h)))
 
 -- a data byte with no status in force changes nothing
-stray_byte : (d : Decoder) (store : List ℕ) (b : ℕ) (bs : List ℕ) → d.in_sysex ≡ false → d.status ≡ s.None → b < 0x80
+stray_byte : (d : Decoder) (store : List ℕ) (b : ℕ) (bs : List ℕ) → d.in_sysex ≡ false → d.status ≡ None → b < 0x80
     → walk d store (b ∷ bs) ≡ further 1 (walk d store bs)
 stray_byte d store b bs p q low =
     let eqs = data_plain d store b p in
-    let nothing : silent d ≡ collect d.status d b = ap (λ (x : RunningStatus). collect x d b) (sym q) in
+    let nothing : silent d ≡ collect d.status d b = ap (λ (x : Option ℕ). collect x d b) (sym q) in
     let steps = step_by k.Data d store b (class_is b k.Data low) (silent d) store (nothing ∙ sym eqs.0) (sym eqs.1) in
     quiet_byte d d store store b bs steps.0 steps.1
 
-pub stray_run : (n : ℕ) (d : Decoder) (store bytes : List ℕ) → d.in_sysex ≡ false → d.status ≡ s.None → n ≤ data_run bytes
+pub stray_run : (n : ℕ) (d : Decoder) (store bytes : List ℕ) → d.in_sysex ≡ false → d.status ≡ None → n ≤ data_run bytes
     → walk d store bytes ≡ further n (walk d store (drop n bytes))
 stray_run zero d store bytes p q h = sym (none_further _)
 stray_run (suc n) d store [] p q h = absurd (omega (arith, run_none, h))

@@ -1,4 +1,5 @@
 -- A state's bytes say the state, because each field has bytes of its own and a length below 2 to the 64th is its eight digits.
+use Rattle.std.specs.Prelude.{None, Option, Some, is_some, unwrap_or}
 use mathlib.Core.Path.{◌≡◌, refl, ap, sym, ◌∙◌}
 use mathlib.Core.Bool.{Bool, true, false, ◌||◌}
 use mathlib.Core.List.{List, [], ◌∷◌, ◌++◌, append-nil}
@@ -12,8 +13,6 @@ use Rattle.laws.specs.Choice.{flag}
 use Rattle.laws.proofs.Tests.{both}
 use Rattle.octets.specs.quick.Words.{word}
 use Rattle.octets.proofs.words.Words.{digit0, digit1, digit2, digit3, digit4, digit5, digit6, digit7}
-use Rattle.decoder.specs.declared.RunningStatus.{RunningStatus}
-use Rattle.decoder.specs.declared.RunningStatus.TheVariants as s
 use Rattle.decoder.specs.declared.Decoder.{Decoder}
 use Rattle.decoder.specs.State.{fresh}
 use Rattle.stream.specs.State.{encoded, is_state, state_length, state_of, status_of, status_flag, status_byte}
@@ -25,6 +24,11 @@ stored_all l vs e =
     let all : length l ≤ 0 + length vs = omega arith in
     sets-eq vs l 0 room ∙ ap (λ (t : List ℕ). vs ++ t) (drop_of_length-le l all) ∙ append-nil vs
 
+-- the library's words for a status's flag and byte
+pub status_told : (v : Option ℕ) → (flag (is_some v) ≡ status_flag v) × (unwrap_or v 0 ≡ status_byte v)
+status_told None = (refl, refl)
+status_told (Some b) = (refl, refl)
+
 -- a fresh state is fourteen bytes 00
 pub fresh_bytes : encoded fresh ≡ 0 ∷ 0 ∷ 0 ∷ 0 ∷ 0 ∷ 0 ∷ 0 ∷ 0 ∷ 0 ∷ 0 ∷ 0 ∷ 0 ∷ 0 ∷ 0 ∷ []
 fresh_bytes = refl
@@ -33,11 +37,11 @@ fresh_bytes = refl
 pub encoded_is_state : (d : Decoder) → is_state (encoded d) ≡ true
 encoded_is_state d = go d.in_sysex d.status
   where
-    go : (b : Bool) (v : RunningStatus) → is_state (encoded (record { in_sysex = b; len = d.len; status = v; have = d.have; data0 = d.data0; data1 = d.data1 })) ≡ true
-    go true s.None = refl
-    go true (s.Status x) = refl
-    go false s.None = refl
-    go false (s.Status x) = refl
+    go : (b : Bool) (v : Option ℕ) → is_state (encoded (record { in_sysex = b; len = d.len; status = v; have = d.have; data0 = d.data0; data1 = d.data1 })) ≡ true
+    go true None = refl
+    go true (Some x) = refl
+    go false None = refl
+    go false (Some x) = refl
 
 -- four digits of a number, low first
 four_digits : (n : ℕ) → n % 256 + 256 * (n / 0x100 % 256) + 65_536 * (n / 0x1_0000 % 256) + 16_777_216 * (n / 0x100_0000 % 256) ≡ n % 0x1_0000_0000
@@ -71,13 +75,13 @@ state_read_back d h = go d.in_sysex d.status
     digits : state_length (encoded d) ≡ d.len
     digits = eight_digits d.len h
 
-    go : (b : Bool) (v : RunningStatus)
+    go : (b : Bool) (v : Option ℕ)
         → state_of (encoded (record { in_sysex = b; len = d.len; status = v; have = d.have; data0 = d.data0; data1 = d.data1 }))
         ≡ record { in_sysex = b; len = d.len; status = v; have = d.have; data0 = d.data0; data1 = d.data1 }
-    go true s.None = ap (λ (n : ℕ). record { in_sysex = true; len = n; status = s.None; have = d.have; data0 = d.data0; data1 = d.data1 }) digits
-    go true (s.Status x) = ap (λ (n : ℕ). record { in_sysex = true; len = n; status = s.Status x; have = d.have; data0 = d.data0; data1 = d.data1 }) digits
-    go false s.None = ap (λ (n : ℕ). record { in_sysex = false; len = n; status = s.None; have = d.have; data0 = d.data0; data1 = d.data1 }) digits
-    go false (s.Status x) = ap (λ (n : ℕ). record { in_sysex = false; len = n; status = s.Status x; have = d.have; data0 = d.data0; data1 = d.data1 }) digits
+    go true None = ap (λ (n : ℕ). record { in_sysex = true; len = n; status = None; have = d.have; data0 = d.data0; data1 = d.data1 }) digits
+    go true (Some x) = ap (λ (n : ℕ). record { in_sysex = true; len = n; status = Some x; have = d.have; data0 = d.data0; data1 = d.data1 }) digits
+    go false None = ap (λ (n : ℕ). record { in_sysex = false; len = n; status = None; have = d.have; data0 = d.data0; data1 = d.data1 }) digits
+    go false (Some x) = ap (λ (n : ℕ). record { in_sysex = false; len = n; status = Some x; have = d.have; data0 = d.data0; data1 = d.data1 }) digits
 
 -- bytes that are a state's are fourteen
 pub state_is_long : (bytes : List ℕ) → is_state bytes ≡ true → length bytes ≡ 14

@@ -1,5 +1,6 @@
 -- What the code stores are the bytes of the state that it means, because the bytes that it leaves alone are 0 already and the numbers that it
 -- stores have the state's bytes as their digits.
+use Rattle.std.specs.Prelude.{None, Option, Some}
 use mathlib.Core.Path.{◌≡◌, refl, sym, ap, ◌∙◌}
 use mathlib.Core.Bool.{false}
 use mathlib.Core.List.{List, [], ◌∷◌}
@@ -9,8 +10,6 @@ use lib.ListN.{length, get_or, set}
 use lib.Dec.{eqb}
 use Rattle.laws.specs.Choice.{pick}
 use Rattle.octets.specs.quick.Words.{put_word}
-use Rattle.decoder.specs.declared.RunningStatus.{RunningStatus}
-use Rattle.decoder.specs.declared.RunningStatus.TheVariants as s
 use Rattle.decoder.specs.declared.Decoder.{Decoder}
 use Rattle.decoder.specs.State.{limit, cleared}
 use Rattle.decoder.specs.Step.{holding}
@@ -21,13 +20,13 @@ use Rattle.stream.proofs.StateBytes.{fourteen}
 use Rattle.stream.proofs.Tests.{limit_small}
 
 -- a closed state with this status, so much pending and these data bytes
-abbrev pub closed_of : RunningStatus → ℕ → ℕ → ℕ → Decoder
+abbrev pub closed_of : Option ℕ → ℕ → ℕ → ℕ → Decoder
 closed_of v h a z = record { in_sysex = false; len = 0; status = v; have = h; data0 = a; data1 = z }
 
 -- the closed state that a number of four bytes says, with these data bytes
 abbrev pub closed_by : ℕ → ℕ → ℕ → Decoder
 closed_by m a z =
-    record { in_sysex = false; len = 0; status = pick (eqb m 0) s.None (s.Status (status_in m)); have = m / 16_777_216; data0 = a; data1 = z }
+    record { in_sysex = false; len = 0; status = pick (eqb m 0) None (Some (status_in m)); have = m / 16_777_216; data0 = a; data1 = z }
 
 -- bytes with no frame
 front_known : (l : List ℕ) → FrontFree l
@@ -39,9 +38,9 @@ middle_known : (l : List ℕ) → MiddleFree l
     → l ≡ get_or l 0 0 ∷ get_or l 1 0 ∷ get_or l 2 0 ∷ get_or l 3 0 ∷ get_or l 4 0 ∷ get_or l 5 0 ∷ get_or l 6 0 ∷ get_or l 7 0 ∷ 0 ∷ 0 ∷ 0 ∷ 0 ∷ get_or l 12 0 ∷ get_or l 13 0 ∷ []
 middle_known l free = sym free.1 ∙ ap (put_middle 0) (fourteen l free.0)
 
-flag_small : (v : RunningStatus) → status_flag v < 256
-flag_small s.None = omega arith
-flag_small (s.Status b) = omega arith
+flag_small : (v : Option ℕ) → status_flag v < 256
+flag_small None = omega arith
+flag_small (Some b) = omega arith
 
 -- a number's four bytes
 four_stored : (m f b h : ℕ) → f < 256 → b < 256 → h < 256 → m ≡ 256 * f + 65_536 * b + 16_777_216 * h
@@ -49,7 +48,7 @@ four_stored : (m f b h : ℕ) → f < 256 → b < 256 → h < 256 → m ≡ 256 
 four_stored m f b h p q r e = (omega arith, omega arith, omega arith, omega arith)
 
 -- what waits outside a frame, with both data bytes
-module _ (l : List ℕ) (free : FrontFree l) (v : RunningStatus) (h a m : ℕ) (byte : status_byte v < 256) (few : h < 256)
+module _ (l : List ℕ) (free : FrontFree l) (v : Option ℕ) (h a m : ℕ) (byte : status_byte v < 256) (few : h < 256)
     (m-is : m ≡ 256 * status_flag v + 65_536 * status_byte v + 16_777_216 * h) where
   digits : (m % 256 ≡ 0) × (m / 0x100 % 256 ≡ status_flag v) × (m / 0x1_0000 % 256 ≡ status_byte v) × (m / 0x100_0000 % 256 ≡ h)
   digits = four_stored m (status_flag v) (status_byte v) h (flag_small v) byte few m-is

@@ -1,4 +1,5 @@
 -- The numbers of a report can be had from its bytes, because each message keeps its data bytes as they are, and a bend and a position join them.
+use Rattle.std.specs.Prelude.{Option}
 use mathlib.Core.Path.{◌≡◌, refl, sym, subst}
 use mathlib.Core.Bool.{Bool, true, false, ◌&&◌, not}
 use Prim.Native.Nat.{ℕ, ◌+◌, ◌*◌, ◌/◌, ◌≤◌, ◌<◌}
@@ -10,7 +11,6 @@ use Rattle.wire.specs.Status.{data_length}
 use Rattle.wire.proofs.DataLength.{two_low, one_middle, two_high}
 use Rattle.wire.specs.RealTime.{realtime_of}
 use Rattle.decoder.specs.declared.Class.TheVariants as k
-use Rattle.decoder.specs.declared.MaybeReport.{MaybeReport}
 use Rattle.decoder.specs.Step.{message_report, realtime_report}
 use Rattle.decoder.specs.Call.{some_report}
 use Rattle.decoder.proofs.Classes.{Range}
@@ -19,9 +19,10 @@ use Rattle.stream.specs.declared.FedAnswer.{FedAnswer}
 use Rattle.stream.specs.Reports.{numbers_of}
 use Rattle.stream.specs.quick.Bytes.{is_realtime}
 use Rattle.stream.proofs.Statuses.{two_of_f2, held, position}
+use Rattle.decoder.specs.declared.Report.{Report}
 
 -- a report, and its numbers behind n bytes
-pub record Told (o : MaybeReport) (n : ℕ) (r : FedAnswer) : Type 0 where
+pub record Told (o : Option Report) (n : ℕ) (r : FedAnswer) : Type 0 where
   pub some : some_report o ≡ true
   pub numbers : r ≡ numbers_of n false o
 

@@ -1,5 +1,5 @@
 -- The decoder's reports in plain numbers: a kind, a status byte and two numbers.
-use Rattle.std.specs.Prelude.{Bool, ℕ, ◌+◌}
+use Rattle.std.specs.Prelude.{Bool, ℕ, ◌+◌, None, Option, Some}
 use Rattle.laws.specs.Choice.{flag}
 use Rattle.wire.specs.declared.channel_message.ChannelMessage.{ChannelMessage}
 use Rattle.wire.specs.declared.channel_message.ChannelMessage.TheVariants as m
@@ -9,8 +9,6 @@ use Rattle.wire.specs.ChannelMessage.{status_nibble}
 use Rattle.wire.specs.RealTime.{realtime_byte}
 use Rattle.decoder.specs.declared.Report.{Report}
 use Rattle.decoder.specs.declared.Report.TheVariants as r
-use Rattle.decoder.specs.declared.MaybeReport.{MaybeReport}
-use Rattle.decoder.specs.declared.MaybeReport.TheVariants as o
 use Rattle.stream.specs.declared.FedAnswer.{FedAnswer}
 
 -- a report's kind: 1 a channel message, 2 a frame, 3 a system common message, 4 a real-time message; 18 and 19 as document 01's numbers
@@ -84,8 +82,8 @@ report_second r.SysExInterrupted = 0
 report_second (r.SysExTooLong n) = 0
 
 -- what a call used and reported, in numbers
-abbrev pub numbers_of : ℕ → Bool → MaybeReport → FedAnswer
-numbers_of used interrupted o.None =
+abbrev pub numbers_of : ℕ → Bool → Option Report → FedAnswer
+numbers_of used interrupted None =
     record { number = 0; used = used; interrupted = flag interrupted; kind = 0; status = 0; first = 0; second = 0 }
-numbers_of used interrupted (o.Some x) =
+numbers_of used interrupted (Some x) =
     record { number = 0; used = used; interrupted = flag interrupted; kind = report_kind x; status = report_status x; first = report_first x; second = report_second x }

@@ -1,19 +1,17 @@
 -- The decoder's state as its host keeps it: fourteen bytes.
-use Rattle.std.specs.Prelude.{Bool, ◌&&◌, ◌||◌, List, [], ◌∷◌, ℕ, ◌+◌, ◌*◌, ◌/◌, ◌%◌, leb, eqb, length, get_or}
+use Rattle.std.specs.Prelude.{Bool, ◌&&◌, ◌||◌, List, [], ◌∷◌, ℕ, ◌+◌, ◌*◌, ◌/◌, ◌%◌, leb, eqb, length, get_or, None, Option, Some}
 use Rattle.laws.specs.Choice.{pick, flag}
-use Rattle.decoder.specs.declared.RunningStatus.{RunningStatus}
-use Rattle.decoder.specs.declared.RunningStatus.TheVariants as s
 use Rattle.decoder.specs.declared.Decoder.{Decoder}
 
 -- the status flag and the status byte; with no status both are 0
-abbrev pub status_flag : RunningStatus → ℕ
-status_flag s.None = 0
-status_flag (s.Status b) = 1
+abbrev pub status_flag : Option ℕ → ℕ
+status_flag None = 0
+status_flag (Some b) = 1
 
 -- the status byte itself; a status 00, which is unsound, is told from none by the flag
-abbrev pub status_byte : RunningStatus → ℕ
-status_byte s.None = 0
-status_byte (s.Status b) = b
+abbrev pub status_byte : Option ℕ → ℕ
+status_byte None = 0
+status_byte (Some b) = b
 
 -- a state's fourteen bytes
 abbrev pub encoded : Decoder → List ℕ
@@ -36,8 +34,8 @@ state_length bytes =
     + 4_294_967_296 * (get_or bytes 5 0 + 256 * get_or bytes 6 0 + 65_536 * get_or bytes 7 0 + 16_777_216 * get_or bytes 8 0)
 
 -- the status that two bytes say: one where the flag is 1
-abbrev pub status_of : ℕ → ℕ → RunningStatus
-status_of given b = pick (eqb given 1) (s.Status b) s.None
+abbrev pub status_of : ℕ → ℕ → Option ℕ
+status_of given b = pick (eqb given 1) (Some b) None
 
 -- the state that bytes say
 abbrev pub state_of : List ℕ → Decoder

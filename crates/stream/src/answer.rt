@@ -1,32 +1,16 @@
 // What a call answers, by the report of the last byte that it used.
-ghost use Rattle.std.specs.Prelude.{◌≡◌, true, false};
+ghost use Rattle.std.specs.Prelude.{◌≡◌, true, false, None, Some};
 ghost use Rattle.wire.specs.declared.system_common.SystemCommon.TheVariants as y;
 ghost use Rattle.wire.specs.RealTime.{realtime_of};
 ghost use Rattle.decoder.specs.State.{limit};
 ghost use Rattle.decoder.specs.Step.{realtime_report};
 ghost use Rattle.decoder.specs.declared.Report.TheVariants as r;
-ghost use Rattle.decoder.specs.declared.MaybeReport.TheVariants as o;
 ghost use Rattle.stream.specs.Reports.{numbers_of};
 ghost use Rattle.stream.specs.Feed.{refused_feed};
 ghost use Rattle.stream.specs.quick.Bytes.{is_realtime};
 
 use crate::{CHANNEL, COMMON, FedAnswer, NOTHING, REALTIME, SYSEX};
 use decoder::MAX_SYSEX_LEN;
-
-// Nothing used and nothing reported: 20.
-pub fn refused() -> FedAnswer
-    ensures { result ≡ refused_feed 20 }
-{
-    FedAnswer {
-        number: 20,
-        used: 0,
-        interrupted: 0,
-        kind: 0,
-        status: 0,
-        first: 0,
-        second: 0,
-    }
-}
 
 // One report that no 18 leads.
 fn told(used: usize, kind: u64, status: u64, first: u64, second: u64) -> FedAnswer
@@ -45,22 +29,26 @@ fn told(used: usize, kind: u64, status: u64, first: u64, second: u64) -> FedAnsw
 
 // No report.
 pub fn quiet(used: usize) -> FedAnswer
-    ensures { result ≡ numbers_of used false o.None }
+    ensures { result ≡ numbers_of used false None }
 {
     told(used, NOTHING, 0, 0, 0)
 }
 
-// Is the byte a real-time message? F9 and FD are none. The clock, which comes most often, is tested first.
+// Nothing used and nothing reported: 20.
+pub fn refused() -> FedAnswer
+    ensures { result ≡ refused_feed 20 }
+{
+    FedAnswer {
+        number: 20,
+        ..quiet(0)
+    }
+}
+
+// Is the byte a real-time message? F9 and FD are none.
 pub fn is_realtime(byte: u8) -> bool
     ensures { result ≡ is_realtime byte }
 {
-    if byte == 0xF8 {
-        return true;
-    }
-    if byte < 0xFA {
-        return false;
-    }
-    byte != 0xFD
+    matches!(byte, 0xF8 | 0xFA..0xFD | 0xFE..)
 }
 
 // A real-time message.
@@ -68,12 +56,12 @@ pub fn realtime(byte: u8, used: usize) -> FedAnswer
     requires { is_realtime byte ≡ true }
     ensures { result ≡ numbers_of used false (realtime_report (realtime_of byte)) }
 {
-    told(used, REALTIME, byte as u64, 0, 0)
+    told(used, REALTIME, u64::from(byte), 0, 0)
 }
 
 // A tune request.
 pub fn tune(used: usize) -> FedAnswer
-    ensures { result ≡ numbers_of used false (o.Some (r.Common y.TuneRequest)) }
+    ensures { result ≡ numbers_of used false (Some (r.Common y.TuneRequest)) }
 {
     told(used, COMMON, 0xF6, 0, 0)
 }
@@ -82,56 +70,47 @@ pub fn tune(used: usize) -> FedAnswer
 pub fn channel(status: u8, first: u64, second: u64, used: usize) -> FedAnswer
     ensures { result ≡ record { number = 0; used = used; interrupted = 0; kind = 1; status = status; first = first; second = second } }
 {
-    told(used, CHANNEL, status as u64, first, second)
+    told(used, CHANNEL, u64::from(status), first, second)
 }
 
 // A system common message with data.
 pub fn common(status: u8, value: u64, used: usize) -> FedAnswer
     ensures { result ≡ record { number = 0; used = used; interrupted = 0; kind = 3; status = status; first = value; second = 0 } }
 {
-    told(used, COMMON, status as u64, value, 0)
+    told(used, COMMON, u64::from(status), value, 0)
 }
 
 // A frame of so many bytes.
 pub fn frame(len: usize, used: usize) -> FedAnswer
-    ensures { result ≡ numbers_of used false (o.Some (r.SysEx len)) }
+    ensures { result ≡ numbers_of used false (Some (r.SysEx len)) }
 {
     told(used, SYSEX, 0, len as u64, 0)
 }
 
 // 19, with the frame limit.
+#[tactic(auto, unfolding(decoder::specs::State::limit))]
 pub fn too_long(used: usize) -> FedAnswer
-    ensures { result ≡ numbers_of used false (o.Some (r.SysExTooLong limit)) }
+    ensures { result ≡ numbers_of used false (Some (r.SysExTooLong limit)) }
 {
     told(used, 19, 0, MAX_SYSEX_LEN as u64, 0)
 }
 
 // 18 alone.
 pub fn interrupted(used: usize) -> FedAnswer
-    ensures { result ≡ numbers_of used true o.None }
+    ensures { result ≡ numbers_of used true None }
 {
     FedAnswer {
-        number: 0,
-        used: used as u64,
         interrupted: 1,
-        kind: NOTHING,
-        status: 0,
-        first: 0,
-        second: 0,
+        ..quiet(used)
     }
 }
 
 // 18, then a tune request.
 pub fn interrupted_by_tune(used: usize) -> FedAnswer
-    ensures { result ≡ numbers_of used true (o.Some (r.Common y.TuneRequest)) }
+    ensures { result ≡ numbers_of used true (Some (r.Common y.TuneRequest)) }
 {
     FedAnswer {
-        number: 0,
-        used: used as u64,
         interrupted: 1,
-        kind: COMMON,
-        status: 0xF6,
-        first: 0,
-        second: 0,
+        ..tune(used)
     }
 }

@@ -17,10 +17,10 @@ use decoder::MAX_SYSEX_LEN;
 // are pending, and the two data bytes.
 pub const STATE_LEN: usize = 14;
 
-// What a call did. number: 0, or 20 where the state or the store is refused and nothing was used. used: how many bytes. interrupted: 1 where
+// What a call did, in numbers for C. number: 0, or 20 where the state or the store is refused and nothing was used. used: how many bytes. interrupted: 1 where
 // report 18 comes first. kind: the report of the last byte used, and its numbers.
 #[repr(C)]
-#[derive(Drop)]
+#[derive(Clone, Copy, Debug, PartialEq, Eq)]
 pub struct FedAnswer {
     pub number: u64,
     pub used: u64,
@@ -43,31 +43,23 @@ pub const COMMON: u64 = 3;
 
 pub const REALTIME: u64 = 4;
 
-// How far a run of data bytes was moved: the next place in the store, the next byte, and how many more might follow.
-#[derive(Drop)]
-pub struct Moved {
-    pub at: usize,
-    pub used: usize,
-    pub left: usize,
-}
-
 // Takes bytes until the first that reports. state and store are lent at every call as the last one left them. Refuses 20, and then uses and
 // writes nothing.
 pub fn feed(state: &mut [u8], store: &mut [u8], bytes: &[u8]) -> FedAnswer
     ensures { StreamFed (feed_call state.old store.old bytes.now) result state.old state.new store.old store.new }
 {
-    if state.len() != STATE_LEN {
+    let Some(kept) = state.as_mut_array() else {
         return answer::refused();
-    }
+    };
     if store.len() < MAX_SYSEX_LEN {
         return answer::refused();
     }
-    let front = numbers::front_of(state);
-    let above = numbers::above_of(state);
-    let middle = numbers::middle_of(state);
-    let first = state[12];
-    if numbers::takes(front, above, middle, first) {
-        return outside::walk(front / 256, middle, first, state, store, bytes);
+    let front = numbers::four_at(kept, 0);
+    let above = numbers::four_at(kept, 4);
+    let middle = numbers::four_at(kept, 8);
+    let first = kept[12];
+    if !numbers::takes(front, above, middle, first) {
+        return answer::refused();
     }
-    answer::refused()
+    outside::walk((front / 256) as usize, middle, first, kept, store, bytes)
 }

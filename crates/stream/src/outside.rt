@@ -1,32 +1,18 @@
 // A call outside a frame. The status in force and what is pending are one number, as the state has them in its bytes 8 to 11.
-ghost use Rattle.std.specs.Prelude.{◌≡◌, false, ◌≤◌, ◌<◌, length, get_or};
+ghost use Rattle.std.specs.Prelude.{◌≡◌, false, ◌<◌, get_or};
 ghost use Rattle.decoder.specs.Step.{message_report, completed};
 ghost use Rattle.decoder.specs.Call.{walk};
 ghost use Rattle.stream.specs.State.{state_of, encoded};
 ghost use Rattle.stream.specs.Reports.{numbers_of};
 ghost use Rattle.stream.specs.quick.Bytes.{status_in};
-ghost use Rattle.stream.specs.quick.Going.{Numbered, Under, FrontFree, Ready, Skipped};
+ghost use Rattle.stream.specs.quick.Going.{Numbered, Under, FrontFree, Ready};
 
 use crate::numbers::PENDING;
-use crate::{FedAnswer, answer, frame, numbers};
-
-// The place behind as many whole words of data bytes as stand at a place: no status is in force, and the rest goes byte by byte.
-fn skip(at: usize, bytes: &[u8]) -> usize
-    requires { at ≤ length bytes.now }
-    ensures { Skipped at result bytes.now }
-{
-    let mut i = at;
-    while 8 <= bytes.len() - i {
-        if octets::words::word_at(bytes, i) & octets::words::TOPS != 0 {
-            return i;
-        }
-        i += 8;
-    }
-    i
-}
+use crate::{FedAnswer, STATE_LEN, answer, frame, numbers};
+use octets::data_bytes::data_run;
 
 // The only data byte of a message, under the status that this number says. A channel status stays in force, F1 and F3 do not.
-fn ends_one(held: usize, only: u8, used: usize, state: &mut [u8]) -> FedAnswer
+fn ends_one(held: u32, only: u8, used: usize, state: &mut [u8; STATE_LEN]) -> FedAnswer
     requires { FrontFree state.old × Under held 1 × (only < 0x80) }
     ensures { (result ≡ numbers_of used false (message_report (status_in held) only 0)) × (state.new ≡ encoded (completed (status_in held) only (get_or state.old 13 0))) }
 {
@@ -40,17 +26,17 @@ fn ends_one(held: usize, only: u8, used: usize, state: &mut [u8]) -> FedAnswer
 }
 
 // The second data byte of a message: the two of a bend and of a position are one number. F2 does not stay in force.
-fn ends_two(held: usize, first: u8, second: u8, used: usize, state: &mut [u8]) -> FedAnswer
+fn ends_two(held: u32, first: u8, second: u8, used: usize, state: &mut [u8; STATE_LEN]) -> FedAnswer
     requires { FrontFree state.old × Under held 2 × (first < 0x80) × (second < 0x80) }
     ensures { (result ≡ numbers_of used false (message_report (status_in held) first second)) × (state.new ≡ encoded (completed (status_in held) first second)) }
 {
     let status = numbers::status_in(held);
-    numbers::put_second(second, state);
+    state[13] = second;
     if status < 0xC0 {
         numbers::put_waiting(held, first, state);
         return answer::channel(status, first as u64, second as u64, used);
     }
-    let value = (first as u64) + 128 * (second as u64);
+    let value = u64::from(wire::bend(first, second));
     if status < 0xF0 {
         numbers::put_waiting(held, first, state);
         return answer::channel(status, value, 0, used);
@@ -59,23 +45,20 @@ fn ends_two(held: usize, first: u8, second: u8, used: usize, state: &mut [u8]) -
     answer::common(status, value, used)
 }
 
-// A call on a state that it takes: in an open frame of so many bytes (entry), or outside one (0) with what waits there and the first data byte.
-// F0 goes over to the frame.
+// A call on a state that it takes: in an open frame of so many bytes, or outside one (0) with what waits there and the first data byte. F0 goes over to
+// the frame. The index is counted by hand, since a run of data bytes, and the two of a message, are taken at once.
 pub fn walk(
-    entry: usize,
-    waiting: usize,
-    data: u8,
-    state: &mut [u8],
+    mut at: usize,
+    mut middle: u32,
+    mut first: u8,
+    state: &mut [u8; STATE_LEN],
     store: &mut [u8],
     bytes: &[u8],
 ) -> FedAnswer
-    requires { Ready entry waiting «data» state.old store.old }
+    requires { Ready at middle first state.old store.old }
     ensures { Numbered (walk (state_of state.old) store.old bytes.now) result state.new store.new }
 {
-    let mut at = entry;
-    let mut middle = waiting;
-    let mut first = data;
-    let mut i: usize = 0;
+    let mut i = 0;
     while at == 0 {
         if i == bytes.len() {
             numbers::put_waiting(middle, first, state);
@@ -83,40 +66,39 @@ pub fn walk(
         }
         let byte = bytes[i];
         i += 1;
-        if byte < 0x80 {
-            if middle == 0 {
-                i = skip(i, bytes);
-            } else if PENDING <= middle {
+        match byte {
+            0x00..0x80 if middle == 0 => i += data_run(&bytes[i..]),
+            0x00..0x80 if PENDING <= middle => {
                 return ends_two(middle - PENDING, first, byte, i, state);
-            } else if numbers::takes_one(numbers::status_in(middle)) {
+            }
+            0x00..0x80 if numbers::takes_one(numbers::status_in(middle)) => {
                 return ends_one(middle, byte, i, state);
-            } else {
-                if i < bytes.len() {
-                    let last = bytes[i];
-                    if last < 0x80 {
-                        return ends_two(middle, byte, last, i + 1, state);
-                    }
+            }
+            0x00..0x80 => {
+                if i < bytes.len() && bytes[i] < 0x80 {
+                    return ends_two(middle, byte, bytes[i], i + 1, state);
                 }
                 first = byte;
                 middle += PENDING;
             }
-        } else if byte < 0xF0 {
-            middle = numbers::held(byte);
-        } else if answer::is_realtime(byte) {
-            numbers::put_waiting(middle, first, state);
-            return answer::realtime(byte, i);
-        } else if byte == 0xF0 {
-            store[0] = byte;
-            numbers::put_waiting(0, first, state);
-            at = 1;
-        } else if byte < 0xF4 {
-            middle = numbers::held(byte);
-        } else if byte < 0xF8 {
-            middle = 0;
-            if byte == 0xF6 {
+            0x80..0xF0 => middle = numbers::held(byte),
+            0xF8.. => {
+                if answer::is_realtime(byte) {
+                    numbers::put_waiting(middle, first, state);
+                    return answer::realtime(byte, i);
+                }
+            }
+            0xF0 => {
+                store[0] = byte;
+                numbers::put_waiting(0, first, state);
+                at = 1;
+            }
+            0xF1..0xF4 => middle = numbers::held(byte),
+            0xF6 => {
                 numbers::put_waiting(0, first, state);
                 return answer::tune(i);
             }
+            _ => middle = 0,
         }
     }
     frame::read(at, i, state, store, bytes)

@@ -1,7 +1,6 @@
 -- A state's bytes as numbers, and the tests of bytes that the loops make.
-use Rattle.std.specs.Prelude.{Bool, true, ◌&&◌, not, List, ℕ, ◌+◌, ◌*◌, ◌/◌, ◌%◌, leb, eqb, get_or, set}
+use Rattle.std.specs.Prelude.{Bool, true, ◌&&◌, not, List, ℕ, ◌+◌, ◌*◌, ◌/◌, ◌%◌, leb, eqb, get_or, set, None, Some}
 use Rattle.laws.specs.Choice.{pick}
-use Rattle.decoder.specs.declared.RunningStatus.TheVariants as s
 use Rattle.decoder.specs.declared.Decoder.{Decoder}
 use Rattle.decoder.specs.State.{limit, waits_soundly}
 use Rattle.stream.specs.State.{status_flag, status_byte}
@@ -41,7 +40,7 @@ open_taken f = eqb (f % 256) 1 && (leb 1 (f / 256) && leb (f / 256) limit)
 
 -- does the number of a closed state's middle say a status, with what may be pending under it?
 abbrev pub waiting_taken : ℕ → ℕ → Bool
-waiting_taken m a = eqb (m % 65_536) 256 && waits_soundly (s.Status (status_in m)) (m / 16_777_216) a
+waiting_taken m a = eqb (m % 65_536) 256 && waits_soundly (Some (status_in m)) (m / 16_777_216) a
 
 -- does a call take the state that these numbers say: its first four bytes, the next four, the next four, and the first data byte?
 abbrev pub taken : ℕ → ℕ → ℕ → ℕ → Bool
@@ -49,4 +48,4 @@ taken f h m a = eqb h 0 && pick (eqb f 0) (pick (eqb m 0) true (waiting_taken m 
 
 -- an open frame of n bytes, with the data bytes that stand last in a state's bytes
 abbrev pub open_state : ℕ → List ℕ → Decoder
-open_state n l = record { in_sysex = true; len = n; status = s.None; have = 0; data0 = get_or l 12 0; data1 = get_or l 13 0 }
+open_state n l = record { in_sysex = true; len = n; status = None; have = 0; data0 = get_or l 12 0; data1 = get_or l 13 0 }

@@ -1,5 +1,5 @@
 -- A call on its way, in the decoder's own terms.
-use Rattle.std.specs.Prelude.{◌≡◌, true, List, ℕ, ◌+◌, ◌-◌, ◌≤◌, min, length, take, drop}
+use Rattle.std.specs.Prelude.{◌≡◌, true, List, ℕ, ◌-◌, ◌≤◌, min, length, take, drop}
 use Rattle.laws.specs.Choice.{pick}
 use Rattle.laws.specs.Window.{window}
 use Rattle.octets.specs.quick.Data.{data_run}
@@ -49,25 +49,12 @@ pub record Ready (entry m a : ℕ) (l store : List ℕ) : Type 0 where
   pub first : a ≡ (state_of l).data0
   pub room : limit ≤ length store
 
--- a place behind some data bytes that stand at another
-pub record Skipped (from at : ℕ) (bytes : List ℕ) : Type 0 where
-  pub count : ℕ
-  pub place : at ≡ from + count
-  pub run : count ≤ data_run (drop from bytes)
+-- the first n bytes of `from` are data bytes, and were copied to the front of a buffer
+pub record Copied (n : ℕ) (from before after : List ℕ) : Type 0 where
+  pub run : n ≤ data_run from
+  pub moved : after ≡ window before 0 (take n from)
 
--- so many data bytes behind the first `from` were moved to the store from `start` on, and at most `left` more may follow of the `most`
-pub record MovedTo (start from most at used left : ℕ) (before after bytes : List ℕ) : Type 0 where
-  pub count : ℕ
-  pub place : at ≡ start + count
-  pub next : used ≡ from + count
-  pub rest : left + count ≡ most
-  pub run : count ≤ data_run (drop from bytes)
-  pub moved : after ≡ window before start (take count (drop from bytes))
-
--- the data bytes behind the first `from` were moved to the store from `start` on, all of them as far as the frame has room
-pub record RunMoved (start from at used : ℕ) (before after bytes : List ℕ) : Type 0 where
-  pub count : ℕ
-  pub all : count ≡ min (limit - start) (data_run (drop from bytes))
-  pub place : at ≡ start + count
-  pub next : used ≡ from + count
-  pub moved : after ≡ window before start (take count (drop from bytes))
+-- n data bytes behind the first `from` were moved to the store from `start` on, all of them as far as the frame has room
+pub record RunMoved (start from n : ℕ) (before after bytes : List ℕ) : Type 0 where
+  pub all : n ≡ min (limit - start) (data_run (drop from bytes))
+  pub moved : after ≡ window before start (take n (drop from bytes))

@@ -1,30 +1,36 @@
--- `class_of` meets its contract: its tests leave each class its range.
-use Rattle.decoder.proofs.Classes.{class_is}
-use Rattle.decoder.specs.declared.Class.TheVariants as k
-use mathlib.Core.Path.{sym}
-use native.Mathlib.Omega.{arith}
+-- Each range of bytes has the class that the definition's tests give it.
+use Rattle.std.proofs.Common.{rules}
+use Rattle.decoder.specs.Step.{class_of}
 use Rattle.decoder.proofs.byte.class_of.Goals as goal
 
-pub returns-then-byte-lt128 : goal.returns-then-byte-lt128
-returns-then-byte-lt128 c = sym (class_is _ k.Data (omega arith))
+pub returns-in-0-to-127 : goal.returns-in-0-to-127
+unfolding class_of
+returns-in-0-to-127 c = search rules
 
-pub returns-then-byte-lt240 : goal.returns-then-byte-lt240
-returns-then-byte-lt240 c = sym (class_is _ k.Held (omega arith, omega arith, λ q. omega arith))
+pub returns-in-128-to-239 : goal.returns-in-128-to-239
+unfolding class_of
+returns-in-128-to-239 c = search rules
 
-pub returns-then-byte-eq240 : goal.returns-then-byte-eq240
-returns-then-byte-eq240 c = sym (class_is _ k.Start (omega arith))
+pub returns-in-240 : goal.returns-in-240
+unfolding class_of
+returns-in-240 c = search rules
 
-pub returns-then-byte-lt244 : goal.returns-then-byte-lt244
-returns-then-byte-lt244 c = sym (class_is _ k.Held (omega arith, omega arith, λ q. omega arith))
+pub returns-in-241-to-243 : goal.returns-in-241-to-243
+unfolding class_of
+returns-in-241-to-243 c = search rules
 
-pub returns-then-byte-lt246 : goal.returns-then-byte-lt246
-returns-then-byte-lt246 c = sym (class_is _ k.Undefined (omega arith, omega arith))
+pub returns-in-244-to-245 : goal.returns-in-244-to-245
+unfolding class_of
+returns-in-244-to-245 c = search rules
 
-pub returns-then-byte-eq246 : goal.returns-then-byte-eq246
-returns-then-byte-eq246 c = sym (class_is _ k.Tune (omega arith))
+pub returns-in-246 : goal.returns-in-246
+unfolding class_of
+returns-in-246 c = search rules
 
-pub returns-then-byte-eq247 : goal.returns-then-byte-eq247
-returns-then-byte-eq247 c = sym (class_is _ k.End (omega arith))
+pub returns-in-247 : goal.returns-in-247
+unfolding class_of
+returns-in-247 c = search rules
 
-pub returns : goal.returns
-returns c = sym (class_is _ k.Realtime (omega arith))
+pub returns-in_default : goal.returns-in_default
+unfolding class_of
+returns-in_default c = search rules

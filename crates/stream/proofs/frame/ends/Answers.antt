@@ -4,10 +4,6 @@ use native.Mathlib.Omega.{arith}
 use Rattle.decoder.proofs.Limit.{limit_is}
 use Rattle.stream.proofs.FrameSteps.{end_answers, beyond_answers, end_is}
 use Rattle.stream.proofs.frame.ends.Goals as goal
-use Rattle.stream.proofs.frame.ends.Goals.{then-byte-ge128+else-byte-lt247, else-byte-ge128}
-
-pub bounds-store-at : goal.bounds-store-at
-bounds-store-at c = omega (arith, limit_is)
 
 pub returns-then-at-lt-MAX_SYSEX_LEN : goal.returns-then-at-lt-MAX_SYSEX_LEN
 returns-then-at-lt-MAX_SYSEX_LEN c =
@@ -15,7 +11,7 @@ returns-then-at-lt-MAX_SYSEX_LEN c =
     let p = c.requires in
     end_answers a.state.now p.0 a.at a.store.now a.byte a.used _ _ _
     (end_is a.byte a.at p.3 p.4 (omega (arith, limit_is))
-    (λ l h. elim c.if-byte-ge128.branch [ then-byte-ge128+else-byte-lt247 w ↦ omega arith | else-byte-ge128 w ↦ omega arith ]))
+    (λ l h. omega arith))
     (omega (arith, limit_is)) c.frame.ensures c.put_closed.ensures refl
 
 pub returns : goal.returns
@@ -23,7 +19,5 @@ returns c =
     let a = c.args in
     let p = c.requires in
     beyond_answers a.state.now p.0 a.at a.store.now a.byte a.used _ _ _ p.3
-    (λ l h. elim c.if-byte-ge128.branch [ then-byte-ge128+else-byte-lt247 w ↦ omega arith | else-byte-ge128 w ↦ omega arith ]) (omega (
-      arith,
-      limit_is,
-    )) c.too_long.ensures c.put_closed.ensures refl
+    (λ l h. omega arith)
+    (omega (arith, limit_is)) c.too_long.ensures c.put_closed.ensures refl

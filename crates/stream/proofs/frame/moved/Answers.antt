@@ -1,46 +1,13 @@
--- `moved` meets its contract: whole words, then byte by byte to the run's end or the room's.
-use Prim.Native.Nat.{◌+◌, ◌≤◌}
+-- `moved` meets its contract: the part of the store is given back with the run at its front.
+use Prim.Native.Nat.{◌+◌, ◌-◌}
 use native.Mathlib.Omega.{arith}
-use lib.ListN.{length}
-use Rattle.stream.proofs.Moving.{moving_byte, moving_stops, moving_ends, moved_then}
+use Rattle.decoder.proofs.Limit.{limit_is}
+use Rattle.stream.proofs.Moving.{run_moved_there}
 use Rattle.stream.proofs.frame.moved.Goals as goal
-
-pub returns-then-byte-ge128 : goal.returns-then-byte-ge128
-returns-then-byte-ge128 c =
-    let a = c.args in
-    let l = c.loop-left in
-    let p = c.requires in
-    let m = c.moved_words-words in
-    let n = c.most.result in
-    let room : a.start + n ≤ length a.store.now = omega (arith, c.most.ensures, p.0, p.1) in
-    let there : a.from + n ≤ length a.bytes.now = omega (arith, c.most.ensures, p.2) in
-    moving_stops a.start a.from n a.store.now a.bytes.now room there l.at l.used l.left l.store
-    (moved_then a.start a.from n m.result.at m.result.used m.result.left l.at l.used l.left a.store.now m.new.store
-    l.store a.bytes.now room there m.ensures l.invariant)
-    p.1 c.most.ensures c.loop-left-test.true c.if-byte-ge128.true
-
-pub loop-left-preserved : goal.loop-left-preserved
-loop-left-preserved c =
-    let a = c.args in
-    let l = c.loop-left in
-    let p = c.requires in
-    let m = c.moved_words-words in
-    let room : m.result.at + m.result.left ≤ length m.new.store =
-    omega (arith, c.most.ensures, p.0, p.1, m.auto.store, m.ensures.place, m.ensures.rest) in
-    let there : m.result.used + m.result.left ≤ length a.bytes.now = omega (arith, c.most.ensures, p.2, m.ensures.next, m.ensures.rest) in
-    moving_byte m.result.at m.result.used m.result.left m.new.store a.bytes.now room there l.at l.used l.left l.store
-    l.invariant c.loop-left-test.true c.if-byte-ge128.false
 
 pub returns : goal.returns
 returns c =
     let a = c.args in
-    let l = c.loop-left in
     let p = c.requires in
-    let m = c.moved_words-words in
-    let n = c.most.result in
-    let room : a.start + n ≤ length a.store.now = omega (arith, c.most.ensures, p.0, p.1) in
-    let there : a.from + n ≤ length a.bytes.now = omega (arith, c.most.ensures, p.2) in
-    moving_ends a.start a.from n a.store.now a.bytes.now room there l.at l.used l.left l.store
-    (moved_then a.start a.from n m.result.at m.result.used m.result.left l.at l.used l.left a.store.now m.new.store
-    l.store a.bytes.now room there m.ensures l.invariant)
-    p.1 c.most.ensures (omega (arith, c.loop-left-test.false))
+    run_moved_there a.at a.used (a.used + c.min-most.result - a.used) _ a.store.now a.bytes.now _ p.0 p.1 p.2 (omega (arith, limit_is))
+    c.moved_run.ensures.1 c.moved_run.ensures.0.moved

@@ -1,8 +1,6 @@
-use Rattle.stream.specs.quick.Going.{MovedTo}
+use Prim.Native.Nat.{◌*◌}
+use Rattle.stream.specs.quick.Going.{Copied}
 use Rattle.stream.proofs.frame.moved_words.Given as goal
 
-abbrev pub invariant-loop-left : goal.invariant-loop-left
-invariant-loop-left l = MovedTo l.start l.from l.most l.at l.used l.left l.initial.store l.store l.bytes
-
-abbrev pub decreases-loop-left : goal.decreases-loop-left
-decreases-loop-left l = l.left
+abbrev pub invariant-loop-w : goal.invariant-loop-w
+invariant-loop-w l = Copied (l.w * 8) l.from l.initial.to l.to

@@ -1,6 +1,7 @@
 -- `ends_two` meets its contract.
 use mathlib.Core.Path.{ap, ◌∙◌}
-use Rattle.stream.specs.quick.Bytes.{put_waiting}
+use Prim.Native.Nat.{ℕ}
+use Rattle.stream.proofs.Told.{numbers}
 use Rattle.stream.proofs.Whole.{plain_of_two, bend_of_two, common_of_two}
 use Rattle.stream.proofs.outside.ends_two.Goals as goal
 
@@ -8,20 +9,22 @@ pub returns-then-status-lt192 : goal.returns-then-status-lt192
 returns-then-status-lt192 c =
     let a = c.args in
     let p = c.requires in
-    let later = c.put_waiting.ensures ∙ ap (put_waiting a.held a.first) c.put_second.ensures in
-    plain_of_two a.state.now p.0 a.held _ a.used c.status_in-status.ensures _ _ a.first a.second p.1 p.2 p.3 c.if-status-lt192.true c.channel.ensures later
+    plain_of_two a.state.now p.0 a.held _ a.used c.status_in-status.ensures _ _ a.first a.second p.1 p.2 p.3 c.if-status-lt192.true c.channel.ensures
+    c.put_waiting.ensures
 
 pub returns-then-status-lt240 : goal.returns-then-status-lt240
 returns-then-status-lt240 c =
     let a = c.args in
     let p = c.requires in
-    let later = c.put_waiting-then-status-lt240.ensures ∙ ap (put_waiting a.held a.first) c.put_second.ensures in
+    let value = c.from-value.ensures ∙ c.bend.ensures in
     bend_of_two a.state.now p.0 a.held _ a.used c.status_in-status.ensures _ _ a.first a.second p.1 p.2 p.3 c.if-status-lt192.false
-    c.if-status-lt240.true c.channel-then-status-lt240.ensures later
+    c.if-status-lt240.true (c.channel-then-status-lt240.ensures ∙ ap (λ (x : ℕ). numbers a.used 1 c.status_in-status.result x 0) value)
+    c.put_waiting-then-status-lt240.ensures
 
 pub returns : goal.returns
 returns c =
     let a = c.args in
     let p = c.requires in
-    let later = c.put_waiting-2.ensures ∙ ap (put_waiting 0 a.first) c.put_second.ensures in
-    common_of_two a.state.now p.0 a.held _ a.used c.status_in-status.ensures _ _ a.first a.second p.1 p.2 p.3 c.if-status-lt240.false c.common.ensures later
+    let value = c.from-value.ensures ∙ c.bend.ensures in
+    common_of_two a.state.now p.0 a.held _ a.used c.status_in-status.ensures _ _ a.first a.second p.1 p.2 p.3 c.if-status-lt240.false
+    (c.common.ensures ∙ ap (λ (x : ℕ). numbers a.used 3 c.status_in-status.result x 0) value) c.put_waiting-2.ensures

@@ -1,0 +1,5 @@
+use Rattle.stream.specs.quick.Going.{Copied}
+use Rattle.stream.proofs.frame.moved_run.Given as goal
+
+abbrev pub invariant-loop-i : goal.invariant-loop-i
+invariant-loop-i l = Copied l.i l.from l.fn.to l.to
