@@ -1,4 +1,5 @@
 -- A frame that is given passed every test of the reader on the way: the tests, put together in records that other proofs take apart.
+use Rattle.std.specs.Prelude.{None}
 use mathlib.Core.Path.{◌≡◌, refl, ap, sym, subst, ◌∙◌}
 use mathlib.Core.Bool.{Bool, true, false, ◌&&◌, ◌||◌, not}
 use mathlib.Core.List.{List, [], ◌∷◌}
@@ -18,7 +19,6 @@ use Rattle.command.specs.Payload as y
 use Rattle.command.specs.Payload.{Field, payload_of, raw_length_for}
 use Rattle.command.proofs.Table.{of_every}
 use Rattle.packed.specs.Packed.{packed_length}
-use Rattle.framing.specs.declared.MaybeByte.TheVariants as m
 use Rattle.framing.specs.Framing.{framed, body, first_high, when_seven_bit, same_bytes}
 use Rattle.framing.proofs.Bytes.{same_is, no_high}
 use Rattle.message.specs.declared.fields.Fields.{Fields}
@@ -57,7 +57,7 @@ pub record TestedPayload (c : Command) (p : List ℕ) (f : Fields) : Type 0 wher
 -- a frame that passed the tests, and what it says
 pub record Tested (bytes : List ℕ) (r : Record) : Type 0 where
   pub ends : framed bytes ≡ true
-  pub low : first_high (body bytes) ≡ m.None
+  pub low : first_high (body bytes) ≡ None
   pub long : 8 ≤ length bytes
   pub ours : take 4 (drop 1 bytes) ≡ maker
   pub device : device_of (get_or bytes 5 0) ≡ gives r.device

@@ -21,7 +21,6 @@ use Rattle.refusal.specs.Outcome.{Outcome, gives, refused, refusal, and_then}
 use Rattle.message.specs.Prefix.{optional, field_list, carries_run}
 use Rattle.frame_reader.specs.declared.Record.{Record}
 use Rattle.frame_reader.specs.Payload.{numbered_by, prefix_length}
-use Rattle.frame_reader.specs.declared.Place.{Place}
 use Rattle.frame_reader.specs.declared.Located.{Located}
 use Rattle.frame_reader.specs.Reader.{payload, read_record, run_in, run_of, place_in, run_place, with_place, read_located}
 use Rattle.frame_reader.proofs.payload.Tests.{numbered_short, optional_is}
@@ -119,10 +118,6 @@ module _ (bytes : List ℕ) (r : Record) (h : gives r ≡ read_record bytes) whe
       go : (t : Bool) → carries_run r.command ≡ t → take (length (run_in r bytes)) (drop (place_in r) bytes) ≡ run_in r bytes
       go true c = rw (← run_length_lem, c, run_part bytes (length (field_list r.command r.fields.has_pattern)))
       go false c = rw c
-
--- a place is known by its two numbers
-pub place_is : (x : Place) {start len : ℕ} → x.start ≡ start → x.len ≡ len → x ≡ record { start = start; len = len }
-place_is x p q = ap (λ (n : ℕ). record { start = n; len = x.len }) p ∙ rw q
 
 -- what was read with its run's place: the reader's record, and where its run lies
 pub record WithPlace (bytes : List ℕ) (x : Located) : Type 0 where

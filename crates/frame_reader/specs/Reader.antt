@@ -3,7 +3,7 @@
 use Rattle.std.specs.Prelude.{◌≡◌, List, [], ◌∷◌, ℕ, ◌+◌, ◌-◌, leb, length, get_or, take, drop}
 use Rattle.std.specs.Borrow.{Bor}
 use Rattle.laws.specs.Choice.{pick}
-use Rattle.refusal.specs.Outcome.{Outcome, gives, refused, refusal, unless, and_then}
+use Rattle.refusal.specs.Outcome.{Outcome, gives, refused, unless, and_then}
 use Rattle.ids.specs.Device.{device_of}
 use Rattle.command.specs.Command.{command_of}
 use Rattle.framing.specs.Framing.{when_framed, when_seven_bit, body, same_bytes}
@@ -13,11 +13,7 @@ use Rattle.message.specs.Head.{head_from}
 use Rattle.message.specs.Prefix.{carries_run, field_list}
 use Rattle.frame_reader.specs.Payload.{read_payload}
 use Rattle.frame_reader.specs.declared.Record.{Record}
-use Rattle.frame_reader.specs.declared.RecordAnswer.{RecordAnswer}
-use Rattle.frame_reader.specs.declared.RecordAnswer.TheVariants as ra
 use Rattle.frame_reader.specs.declared.Located.{Located}
-use Rattle.frame_reader.specs.declared.LocatedAnswer.{LocatedAnswer}
-use Rattle.frame_reader.specs.declared.LocatedAnswer.TheVariants as fa
 
 -- "Row: F0 00 20 32 20, device, command, payload, F7"
 abbrev pub payload : List ℕ → List ℕ
@@ -40,11 +36,6 @@ read_header bytes =
 -- the whole reader: "framing (1); a body byte 80 or above (2, the first such)", then the header
 unfoldable pub read_record : List ℕ → Outcome Record
 read_record bytes = when_framed bytes (when_seven_bit (body bytes) (read_header bytes))
-
--- the code's answer in document 01's terms
-abbrev pub record_told : RecordAnswer → Outcome Record
-record_told (ra.Ok r) = gives r
-record_told (ra.Err e) = refusal e
 
 -- the frame with its message
 abbrev pub frame_of : Record → Frame
@@ -87,11 +78,6 @@ with_place bytes r = record { frame = r; run = record { start = place_in r; len 
 -- the reader's answer with the run's place
 abbrev pub read_located : List ℕ → Outcome Located
 read_located bytes = and_then (read_record bytes) (λ r. gives (with_place bytes r))
-
--- the code's answer with the run's place, in document 01's terms
-abbrev pub located_told : LocatedAnswer → Outcome Located
-located_told (fa.Ok r) = gives r
-located_told (fa.Err e) = refusal e
 
 -- the run is no copy: it is these bytes, so many places behind the first of the caller's
 pub record RunLent (bytes run : Bor (List ℕ)) : Type 0 where

@@ -1,5 +1,7 @@
 -- A frame beside its run: document 01's "record of plain fields beside the caller's packed run" as one struct.
-use Rattle.std.specs.Prelude.{List, ℕ}
+use Rattle.std.specs.Prelude.{List, ℕ, Result, Ok, Err}
+use Rattle.refusal.specs.declared.Refusal.{Refusal}
+use Rattle.refusal.specs.Outcome.{Outcome, gives, refusal}
 use Rattle.std.specs.Borrow.{Bor}
 use Rattle.message.specs.declared.head.Frame as m
 use Rattle.frame_view.specs.declared.frame.Frame.{Frame}
@@ -11,3 +13,8 @@ with_run said run = record { device = said.device; head = said.head; run = run }
 -- what the frame says, without its run
 abbrev pub said : Frame → m.Frame
 said frame = record { device = frame.device; head = frame.head }
+
+-- the reader's answer, without the run
+abbrev pub said_by : Result Frame Refusal → Outcome m.Frame
+said_by (Ok frame) = gives (said frame)
+said_by (Err e) = refusal e

@@ -1,4 +1,5 @@
 -- The writer's last two answers: 2 for a high byte with the buffer untouched, or the whole row at the front.
+use Rattle.std.specs.Prelude.{Err, None, Ok, Result, Some}
 use mathlib.Core.Path.{◌≡◌, refl, ap, sym, subst, ◌∙◌}
 use mathlib.Core.Bool.{Bool, true, false}
 use mathlib.Core.List.{List, [], ◌∷◌, ◌++◌}
@@ -10,8 +11,6 @@ use lib.Seq.{take-length}
 use borrow.Author.Tests.{le-leb, lt-leb}
 use Rattle.laws.specs.Choice.{pick}
 use Rattle.refusal.specs.declared.Refusal.TheVariants as r
-use Rattle.refusal.specs.declared.Count.{Count}
-use Rattle.refusal.specs.declared.Count.TheVariants as c
 use Rattle.refusal.specs.Outcome.{gives, Writes}
 use Rattle.refusal.proofs.Given.{passed_on}
 use Rattle.refusal.proofs.Written.{counted_first, stopped, went_on}
@@ -21,21 +20,21 @@ use Rattle.command.specs.declared.Command.{Command}
 use Rattle.command.specs.Command.{code_of}
 use Rattle.message.specs.declared.fields.Fields.{Fields}
 use Rattle.message.specs.Prefix.{carries_run, prefix_of, checked_fields}
-use Rattle.framing.specs.declared.MaybeByte.TheVariants as m
 use Rattle.framing.specs.Framing.{first_high}
 use Rattle.frame_writer.specs.Writer.{row, own_run, length_for, seven_bit_write, room_write, fields_write}
+use Rattle.refusal.specs.declared.Refusal.{Refusal}
 
-pub seven_refused : (d : DeviceId) (k : Command) (prefix run out : List ℕ) (b : ℕ) → first_high (prefix ++ run) ≡ m.Some b
-    → Writes (seven_bit_write d k prefix run) (c.Err (r.NotSevenBit b)) out out
+pub seven_refused : (d : DeviceId) (k : Command) (prefix run out : List ℕ) (b : ℕ) → first_high (prefix ++ run) ≡ Some b
+    → Writes (seven_bit_write d k prefix run) (Err (r.NotSevenBit b)) out out
 seven_refused d k prefix run out b e = record { answers = rw e; leaves = rw e }
 
 pub length_row : (d k : ℕ) (prefix run : List ℕ) → length (row d k prefix run) ≡ 8 + (length prefix + length run)
 length_row d k prefix run = simp length-append (omega arith)
 
-pub seven_written : (d : DeviceId) (k : Command) (prefix run out later : List ℕ) (n : ℕ) → first_high (prefix ++ run) ≡ m.None
+pub seven_written : (d : DeviceId) (k : Command) (prefix run out later : List ℕ) (n : ℕ) → first_high (prefix ++ run) ≡ None
     → n ≡ 8 + length prefix + length run
     → later ≡ row (device_byte d) (code_of k) prefix run ++ drop (8 + (length prefix + length run)) out
-    → Writes (seven_bit_write d k prefix run) (c.Ok n) out later
+    → Writes (seven_bit_write d k prefix run) (Ok n) out later
 seven_written d k prefix run out later n e f l =
     let count : length (row (device_byte d) (code_of k) prefix run) ≡ 8 + (length prefix + length run) = length_row (device_byte d) (code_of k) prefix run in
     let same : n ≡ length (row (device_byte d) (code_of k) prefix run) = omega (arith, count, f) in
@@ -70,16 +69,16 @@ own_front k run n e = ap (λ (m : ℕ). take m run) e ∙ front (carries_run k)
 -- fields tested and length given: 14, or what follows
 module _ (d : DeviceId) (k : Command) (f own : Fields) (run out : List ℕ) (n len : ℕ) (tested : gives own ≡ checked_fields k f)
     (long : len ≡ length (prefix_of k f)) (counted : gives n ≡ length_for k len (length run)) where
-  in_room : (a : Count) (later : List ℕ) → Writes (room_write d k (prefix_of k f) (own_run k run) (length out) n) a out later
+  in_room : (a : Result ℕ Refusal) (later : List ℕ) → Writes (room_write d k (prefix_of k f) (own_run k run) (length out) n) a out later
       → Writes (fields_write d k f run (length out)) a out later
   in_room a later w =
       counted_first (checked_fields k f) _ own a out later tested
       (counted_first (length_for k (length (prefix_of k f)) (length run)) _ n a out later (counted ∙ ap (λ (l : ℕ). length_for k l (length run)) long) w)
 
-  pub fields_no_room : length out < n → Writes (fields_write d k f run (length out)) (c.Err (r.BufferTooSmall n (length out))) out out
+  pub fields_no_room : length out < n → Writes (fields_write d k f run (length out)) (Err (r.BufferTooSmall n (length out))) out out
   fields_no_room less = in_room _ out (stopped (leb n (length out)) (r.BufferTooSmall n (length out)) _ out (lt-leb n (length out) less))
 
-  pub fields_written : (prefix rest : List ℕ) (a : Count) (later : List ℕ) → n ≤ length out → prefix ≡ prefix_of k f → rest ≡ own_run k run
+  pub fields_written : (prefix rest : List ℕ) (a : Result ℕ Refusal) (later : List ℕ) → n ≤ length out → prefix ≡ prefix_of k f → rest ≡ own_run k run
       → Writes (seven_bit_write d k prefix rest) a out later → Writes (fields_write d k f run (length out)) a out later
   fields_written prefix rest a later room p q w =
       in_room a later
@@ -87,7 +86,7 @@ module _ (d : DeviceId) (k : Command) (f own : Fields) (run out : List ℕ) (n l
       (subst (λ (x : List ℕ). Writes (seven_bit_write d k x (own_run k run)) a out later) p (subst (λ (x : List ℕ). Writes (seven_bit_write d k prefix x) a out later) q w)))
 
 -- a command and its fields in two ways of saying
-pub same_fields : (d : DeviceId) (k l : Command) (f g : Fields) (run out later : List ℕ) (a : Count) → k ≡ l → f ≡ g
+pub same_fields : (d : DeviceId) (k l : Command) (f g : Fields) (run out later : List ℕ) (a : Result ℕ Refusal) → k ≡ l → f ≡ g
     → Writes (fields_write d k f run (length out)) a out later → Writes (fields_write d l g run (length out)) a out later
 same_fields d k l f g run out later a p q w =
     subst (λ (x : Command). Writes (fields_write d x g run (length out)) a out later) p

@@ -3,15 +3,15 @@
 
 ghost use Rattle.std.specs.Prelude.{◌≡◌, ◌++◌, ◌+◌, ◌≤◌, length, drop};
 ghost use Rattle.laws.specs.Choice.{pick};
+ghost use Rattle.framing.specs.Framing.{first_high};
 ghost use Rattle.message.specs.Prefix.{carries_run};
-ghost use Rattle.refusal.specs.Outcome.{Writes, counted};
+ghost use Rattle.refusal.specs.Outcome.{Writes, answered};
 ghost use Rattle.frame_writer.specs.Writer.{length_for, head_length, header, row, frame_write, record_write, fields_write, seven_bit_write};
 
-use command::{Command, CommandAnswer};
-use framing::MaybeByte;
+use command::Command;
 use ids::DeviceId;
-use message::{Fields, FieldsAnswer, Frame, Head};
-use refusal::{Count, Refusal};
+use message::{Fields, Frame, Head};
+use refusal::{OfByte, Refusal};
 
 // Bytes ahead of the payload, and with the closing F7.
 pub const HEADER_LEN: usize = 7;
@@ -22,30 +22,23 @@ pub const OVERHEAD_LEN: usize = 8;
 fn own_len(command: Command, run_len: usize) -> usize
     ensures { result ≡ pick (carries_run command) run_len 0 }
 {
-    if !command.carries_run() {
-        return 0;
-    }
-    run_len
+    if command.carries_run() { run_len } else { 0 }
 }
 
 // The length of a frame with so many bytes ahead of a run of so many; 22 where that is more than a usize holds.
-fn frame_len(command: Command, prefix_len: usize, run_len: usize) -> Count
+fn frame_len(command: Command, prefix_len: usize, run_len: usize) -> Result<usize, Refusal>
     requires { prefix_len ≤ 5 }
-    ensures { counted result ≡ length_for command prefix_len run_len }
+    ensures { answered result ≡ length_for command prefix_len run_len }
 {
     let fixed = OVERHEAD_LEN + prefix_len;
-    if !command.carries_run() {
-        return Count::Ok(fixed);
-    }
-    if 0xFFFF_FFFF_FFFF_FFFF - fixed < run_len {
-        return Count::Err(Refusal::LengthOverflow);
-    }
-    Count::Ok(fixed + run_len)
+    fixed
+        .checked_add(own_len(command, run_len))
+        .ok_or(Refusal::LengthOverflow)
 }
 
 // How many bytes a message takes beside a run of so many bytes; it looks at no field. Refuses 22.
-pub fn encoded_len(head: Head, run_len: usize) -> Count
-    ensures { counted result ≡ head_length head run_len }
+pub fn encoded_len(head: Head, run_len: usize) -> Result<usize, Refusal>
+    ensures { answered result ≡ head_length head run_len }
 {
     let command = head.command();
     let prefix = message::prefix::prefix_of(command, head.to_fields());
@@ -58,13 +51,16 @@ fn put_header(device: u8, code: u8, out: &mut [u8])
     ensures { out.new ≡ header device code ++ drop 7 out.old }
 {
     let ours = framing::MAKER_AND_MODEL;
-    out[0] = framing::SYSEX_START;
-    out[1] = ours[0];
-    out[2] = ours[1];
-    out[3] = ours[2];
-    out[4] = ours[3];
-    out[5] = device;
-    out[6] = code;
+    let header = [
+        framing::SYSEX_START,
+        ours[0],
+        ours[1],
+        ours[2],
+        ours[3],
+        device,
+        code,
+    ];
+    octets::copies::copy_into(&header, out);
 }
 
 // Puts a whole frame to the front of a buffer that has the room.
@@ -80,6 +76,14 @@ fn put_frame(device: u8, code: u8, prefix: &[u8], run: &[u8], out: &mut [u8])
     out[end] = framing::SYSEX_END;
 }
 
+// The first byte of 80 or above in prefix and run.
+#[tactic(auto, using(framing::proofs::Bytes::high_first, framing::proofs::Bytes::high_append))]
+fn first_high(prefix: &[u8], run: &[u8]) -> Option<u8>
+    ensures { result ≡ first_high (prefix.now ++ run.now) }
+{
+    framing::first_high(prefix).or_else(|| framing::first_high(run))
+}
+
 // A frame whose fields were tested and which has the room: 2, or its bytes.
 fn put_seven_bit(
     device: DeviceId,
@@ -87,19 +91,16 @@ fn put_seven_bit(
     prefix: &[u8],
     run: &[u8],
     out: &mut [u8],
-) -> Count
+) -> Result<usize, Refusal>
     requires { 8 + (length prefix.now + length run.now) ≤ length out.old }
     ensures { Writes (seven_bit_write device command prefix.now run.now) result out.old out.new }
 {
-    match framing::first_high(prefix) {
-        MaybeByte::Some(byte) => Count::Err(Refusal::NotSevenBit(byte)),
-        MaybeByte::None => match framing::first_high(run) {
-            MaybeByte::Some(byte) => Count::Err(Refusal::NotSevenBit(byte)),
-            MaybeByte::None => {
-                put_frame(device.to_byte(), command.to_byte(), prefix, run, out);
-                Count::Ok(OVERHEAD_LEN + prefix.len() + run.len())
-            }
-        },
+    match first_high(prefix, run) {
+        Some(byte) => Err(Refusal::NotSevenBit(byte)),
+        None => {
+            put_frame(device.to_byte(), command.to_byte(), prefix, run, out);
+            Ok(OVERHEAD_LEN + prefix.len() + run.len())
+        }
     }
 }
 
@@ -110,40 +111,35 @@ fn write_fields(
     fields: Fields,
     run: &[u8],
     out: &mut [u8],
-) -> Count
+) -> Result<usize, Refusal>
     ensures { Writes (fields_write device command fields run.now (length out.old)) result out.old out.new }
 {
-    match message::prefix::check(command, fields) {
-        FieldsAnswer::Err(e) => Count::Err(e),
-        FieldsAnswer::Ok(_) => {
-            let prefix = message::prefix::prefix_of(command, fields);
-            let len = prefix.len;
-            match frame_len(command, len, run.len()) {
-                Count::Err(e) => Count::Err(e),
-                Count::Ok(needed) => {
-                    let available = out.len();
-                    if available < needed {
-                        return Count::Err(Refusal::BufferTooSmall { needed, available });
-                    }
-                    let bytes = prefix.bytes;
-                    let count = own_len(command, run.len());
-                    put_seven_bit(device, command, &bytes[..len], &run[..count], out)
-                }
-            }
-        }
-    }
+    message::prefix::check(command, fields)?;
+    let prefix = message::prefix::prefix_of(command, fields);
+    let needed = frame_len(command, prefix.len, run.len())?;
+    refusal::room(needed, out.len())?;
+    let own = own_len(command, run.len());
+    put_seven_bit(
+        device,
+        command,
+        &prefix.bytes[..prefix.len],
+        &run[..own],
+        out,
+    )
 }
 
 // Writes a message beside its run. Refuses 5, then as write_fields; it looks at no run length.
-pub fn encode_into(frame: Frame, run: &[u8], out: &mut [u8]) -> Count
+pub fn encode_into(frame: Frame, run: &[u8], out: &mut [u8]) -> Result<usize, Refusal>
     ensures { Writes (frame_write frame run.now (length out.old)) result out.old out.new }
 {
-    let device = frame.device;
-    let head = frame.head;
-    if !framing::device_in_range(device) {
-        return Count::Err(Refusal::InvalidDeviceId(device.to_byte()));
-    }
-    write_fields(device, head.command(), head.to_fields(), run, out)
+    framing::device_byte(frame.device)?;
+    write_fields(
+        frame.device,
+        frame.head.command(),
+        frame.head.to_fields(),
+        run,
+        out,
+    )
 }
 
 // Writes plain fields beside a run. Refuses 5, 6, then as write_fields.
@@ -153,14 +149,10 @@ pub fn write_record(
     fields: Fields,
     run: &[u8],
     out: &mut [u8],
-) -> Count
+) -> Result<usize, Refusal>
     ensures { Writes (record_write device command fields run.now (length out.old)) result out.old out.new }
 {
-    if !framing::device_in_range(device) {
-        return Count::Err(Refusal::InvalidDeviceId(device.to_byte()));
-    }
-    match Command::from_byte(command) {
-        CommandAnswer::Err(e) => Count::Err(e),
-        CommandAnswer::Ok(known) => write_fields(device, known, fields, run, out),
-    }
+    framing::device_byte(device)?;
+    let known = Command::from_byte(command)?;
+    write_fields(device, known, fields, run, out)
 }

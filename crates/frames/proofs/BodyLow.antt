@@ -1,4 +1,5 @@
 -- What the frame writer writes has a body below 80, because it tests prefix and run, and the bytes ahead of them are all small.
+use Rattle.std.specs.Prelude.{None}
 use mathlib.Core.Path.{◌≡◌, refl, sym, ◌∙◌, ap, subst}
 use mathlib.Core.Bool.{true}
 use mathlib.Core.List.{List, [], ◌∷◌, ◌++◌, append_assoc}
@@ -17,7 +18,6 @@ use Rattle.command.specs.declared.Command.{Command}
 use Rattle.command.specs.Command.{code_of}
 use Rattle.command.proofs.Table.{of_every}
 use Rattle.framing.specs.Framing.{body, first_high}
-use Rattle.framing.specs.declared.MaybeByte.TheVariants as m
 use Rattle.framing.proofs.Bytes.{no_high}
 use Rattle.message.specs.declared.head.Frame.{Frame}
 use Rattle.message.specs.Head.{command_of_head, fields_of}
@@ -37,8 +37,8 @@ pub code_low : (c : Command) → code_of c < 0x80
 code_low c = ltb-true (code_of c) 0x80 (of_every (λ j. ltb (code_of j) 0x80) refl c)
 
 -- the row's body
-pub row_body_low : (device code : ℕ) (prefix run : List ℕ) → device < 0x80 → code < 0x80 → first_high (prefix ++ run) ≡ m.None
-    → first_high (body (row device code prefix run)) ≡ m.None
+pub row_body_low : (device code : ℕ) (prefix run : List ℕ) → device < 0x80 → code < 0x80 → first_high (prefix ++ run) ≡ None
+    → first_high (body (row device code prefix run)) ≡ None
 row_body_low device code prefix run h g low =
     let xs : List ℕ = 0x00 ∷ 0x20 ∷ 0x32 ∷ 0x20 ∷ device ∷ code ∷ (prefix ++ run) in
     let same : row device code prefix run ≡ 0xF0 ∷ xs ++ (0xF7 ∷ []) =
@@ -60,7 +60,7 @@ written_row x run room bytes e =
       passed_on (leb two.0 room) 14 (two.0 ∷ room ∷ []) (seven_bit_write x.device c (prefix_of c f) (own_run c run)) bytes two.2,
     )
 
-pub written_body_low : (x : Frame) (run : List ℕ) (room : ℕ) (bytes : List ℕ) → frame_write x run room ≡ gives bytes → first_high (body bytes) ≡ m.None
+pub written_body_low : (x : Frame) (run : List ℕ) (room : ℕ) (bytes : List ℕ) → frame_write x run room ≡ gives bytes → first_high (body bytes) ≡ None
 written_body_low x run room bytes e =
     let c = command_of_head x.head in
     let f = fields_of x.head in
@@ -68,5 +68,5 @@ written_body_low x run room bytes e =
     let four = no_high (first_high (prefix_of c f ++ own_run c run)) (gives (row (device_byte x.device) (code_of c) (prefix_of c f) (own_run c run))) bytes w.1 in
     let last : gives (row (device_byte x.device) (code_of c) (prefix_of c f) (own_run c run)) ≡ gives bytes = four.1 in
     let same : row (device_byte x.device) (code_of c) (prefix_of c f) (own_run c run) ≡ bytes = cc in
-    subst (λ (l : List ℕ). first_high (body l) ≡ m.None) same
+    subst (λ (l : List ℕ). first_high (body l) ≡ None) same
     (row_body_low (device_byte x.device) (code_of c) (prefix_of c f) (own_run c run) (device_low x.device w.0) (code_low c) four.0)

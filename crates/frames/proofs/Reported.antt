@@ -1,5 +1,6 @@
 -- A frame that the reader accepts is reported by a fresh decoder as those bytes, where it is no longer than the limit, because it is
 -- F0, bytes below 80 and F7.
+use Rattle.std.specs.Prelude.{None, Some}
 use mathlib.Core.Path.{◌≡◌, refl, sym, ◌∙◌, ap, ap₂, subst}
 use mathlib.Core.Bool.{Bool, true, false, ◌&&◌}
 use mathlib.Core.List.{List, [], ◌∷◌, ◌++◌}
@@ -13,7 +14,6 @@ use Rattle.laws.specs.Choice.{pick}
 use Rattle.laws.proofs.Tests.{both}
 use Rattle.refusal.specs.Outcome.{gives}
 use Rattle.framing.specs.Framing.{framed, body, first_high}
-use Rattle.framing.specs.declared.MaybeByte.TheVariants as m
 use Rattle.frame_reader.specs.declared.Record.{Record}
 use Rattle.frame_reader.specs.Reader.{read_record}
 use Rattle.frame_reader.proofs.Accepted.{tested}
@@ -45,11 +45,11 @@ framed_is (x ∷ rest) h =
     (ends_with rest n (omega arith) ∙ ap (λ (b : ℕ). take n rest ++ (b ∷ [])) last)
 
 -- no high byte: seven bits each
-pub low_is_seven_bit : (bs : List ℕ) → first_high bs ≡ m.None → seven_bit bs ≡ true
+pub low_is_seven_bit : (bs : List ℕ) → first_high bs ≡ None → seven_bit bs ≡ true
 low_is_seven_bit [] h = refl
 low_is_seven_bit (b ∷ bs) h = go (ltb b 0x80) refl h (low_is_seven_bit bs)
   where
-    go : (t : Bool) → ltb b 0x80 ≡ t → pick t (first_high bs) (m.Some b) ≡ m.None → (first_high bs ≡ m.None → seven_bit bs ≡ true)
+    go : (t : Bool) → ltb b 0x80 ≡ t → pick t (first_high bs) (Some b) ≡ None → (first_high bs ≡ None → seven_bit bs ≡ true)
         → (ltb b 0x80 && seven_bit bs) ≡ true
     go true e g rest = rw e (rest g)
     go false e g rest = let z : ◌≡◌ {A = ℕ} 0 1 = cc in absurd (omega arith)

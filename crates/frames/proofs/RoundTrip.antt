@@ -1,4 +1,5 @@
 -- A frame that is read and written again is the same bytes: the writer puts back every byte that the reader took apart.
+use Rattle.std.specs.Prelude.{None}
 use mathlib.Core.Path.{◌≡◌, refl, ap, ap₂, sym, ◌∙◌}
 use mathlib.Core.Bool.{Bool, true, false, ◌&&◌}
 use mathlib.Core.List.{List, [], ◌∷◌, ◌++◌, append_assoc}
@@ -19,8 +20,8 @@ use Rattle.command.specs.declared.Command.{Command}
 use Rattle.command.specs.declared.Command.TheVariants as k
 use Rattle.command.specs.Command.{code_of, commands}
 use Rattle.command.specs.Payload.{Field}
-use Rattle.command.proofs.Table.{read_code, code_reads_back}
-use Rattle.framing.specs.declared.MaybeByte.TheVariants as m
+use Rattle.command.specs.Laws.{read_code}
+use Rattle.command.proofs.Table.{code_reads_back}
 use Rattle.framing.specs.Framing.{body, first_high}
 use Rattle.framing.proofs.Bytes.{spelled, high_none_behind}
 use Rattle.message.specs.declared.fields.Fields.{Fields}
@@ -147,7 +148,7 @@ module _ (bytes : List ℕ) (r : Record) (d : Tested bytes r) where
       ∙ take-append-drop 7 bytes
 
   -- no byte of the payload is 80 or above
-  pub payload_low : first_high (prefix_of r.command r.fields ++ own_run r.command (run_in r bytes)) ≡ m.None
+  pub payload_low : first_high (prefix_of r.command r.fields ++ own_run r.command (run_in r bytes)) ≡ None
   payload_low =
       let cut : ℕ = length (field_list r.command r.fields.has_pattern) in
       let whole : prefix_of r.command r.fields ++ own_run r.command (run_in r bytes) ≡ payload bytes = ap₂ (λ (x z : List ℕ). x ++ z)

@@ -1,10 +1,9 @@
 -- The frames of document 01: its row, its list of payloads and its table of run lengths, put together. No order of tests and no rule for
 -- lengths stands here: a frame is described by what it consists of.
-use Rattle.std.specs.Prelude.{◌≡◌, true, List, ◌++◌, ℕ, ◌+◌, length}
+use Rattle.std.specs.Prelude.{◌≡◌, true, List, ◌++◌, ℕ, ◌+◌, length, None}
 use Rattle.laws.specs.Choice.{flag}
 use Rattle.ids.specs.Device.{device_byte, device_in_range}
 use Rattle.command.specs.Command.{code_of}
-use Rattle.framing.specs.declared.MaybeByte.TheVariants as m
 use Rattle.framing.specs.Framing.{first_high}
 use Rattle.message.specs.Prefix.{field_list, prefix_of, fields_at, all_fit}
 use Rattle.frame_reader.specs.declared.Record.{Record}
@@ -26,6 +25,6 @@ pub record Described (bytes : List ℕ) (r : Record) (run : List ℕ) : Type 0 w
   -- "A field .. that the command lacks is 0": the fields are those that the prefix says, and no others
   pub own : r.fields ≡ fields_at r.command r.fields.has_pattern (prefix_in r)
   -- no body byte is "80 or above"
-  pub low : first_high (prefix_in r ++ run) ≡ m.None
+  pub low : first_high (prefix_in r ++ run) ≡ None
   -- "Accepted run lengths"; a pattern's number counts with its run, since its lengths are those "after v"
   pub long : listed (lengths_of r.command r.fields.version r.fields.has_pattern) (flag r.fields.has_pattern + length run) ≡ true

@@ -1,14 +1,12 @@
 -- The identity reply of document 01: "reply 17 bytes: F0 7E device 06 02 00 20 32 20 00 01 00, firmware (minor in the high four bits), one free
 -- byte, two voice bytes, F7."
 use Rattle.std.specs.Prelude.{Bool, ◌&&◌, List, [], ◌∷◌, ◌++◌, ℕ, eqb, length, get_or, take, drop}
-use Rattle.refusal.specs.Outcome.{Outcome, gives, refusal, unless, and_then, with_room}
+use Rattle.refusal.specs.Outcome.{Outcome, gives, unless, and_then, with_room}
 use Rattle.ids.specs.declared.device.DeviceId.{DeviceId}
 use Rattle.ids.specs.Device.{device_of, device_byte, device_in_range}
 use Rattle.framing.specs.Framing.{when_framed, same_bytes, maker}
 use Rattle.inquiry.specs.declared.identity.Identity.{Identity}
 use Rattle.inquiry.specs.Identity.{firmware_of, packed_of}
-use Rattle.inquiry.specs.declared.reply.IdentityAnswer.{IdentityAnswer}
-use Rattle.inquiry.specs.declared.reply.IdentityAnswer.TheVariants as a
 
 -- the shape of a reply: 7E, any device, 06 02, maker, family and member, then any five bytes
 abbrev pub is_reply : List ℕ → Bool
@@ -25,11 +23,6 @@ identity_at d bytes =
 abbrev pub read_reply : List ℕ → Outcome Identity
 read_reply bytes =
     when_framed bytes (unless (is_reply bytes) 16 [] (and_then (device_of (get_or bytes 2 0)) (λ d. gives (identity_at d bytes))))
-
--- the code's answer in document 01's terms
-abbrev pub identity_told : IdentityAnswer → Outcome Identity
-identity_told (a.Ok x) = gives x
-identity_told (a.Err e) = refusal e
 
 -- "puts 00 in the free byte"
 abbrev pub reply_bytes : Identity → List ℕ

@@ -9,7 +9,7 @@ use ids::{DeviceId, Model};
 pub const NON_REALTIME: u8 = 0x7E;
 
 // A software version.
-#[derive(Drop)]
+#[derive(Clone, Copy, Debug, PartialEq, Eq, PartialOrd, Ord)]
 pub struct Version {
     pub major: u8,
     pub minor: u8,
@@ -37,25 +37,19 @@ impl Version {
     pub fn at_least(self, major: u8, minor: u8) -> bool
         ensures { result ≡ at_least self major minor }
     {
-        if self.major == major {
-            return minor <= self.minor;
-        }
-        major < self.major
+        self >= Version { major, minor }
     }
 
     // Exactly this version?
     pub fn is(self, major: u8, minor: u8) -> bool
         ensures { result ≡ is_version self major minor }
     {
-        if self.major == major {
-            return self.minor == minor;
-        }
-        false
+        self == Version { major, minor }
     }
 }
 
 // What a unit tells about itself.
-#[derive(Drop)]
+#[derive(Clone, Copy, Debug, PartialEq, Eq)]
 pub struct Identity {
     pub device: DeviceId,
     pub firmware: Version,

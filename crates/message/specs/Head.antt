@@ -1,34 +1,30 @@
 -- The 22 messages: the command of each, its fields, and the message that some fields make.
-use Rattle.std.specs.Prelude.{Bool, true, false, [], ◌∷◌, ℕ}
-use Rattle.refusal.specs.Outcome.{Outcome, gives, refusal, unless, and_then}
+use Rattle.std.specs.Prelude.{Bool, true, false, [], ◌∷◌, ℕ, None, Option, Some}
+use Rattle.refusal.specs.Outcome.{Outcome, gives, unless, and_then}
 use Rattle.ids.specs.declared.device.DeviceId.{DeviceId}
 use Rattle.ids.specs.Device.{device_byte, device_in_range}
 use Rattle.command.specs.declared.Command.{Command}
 use Rattle.command.specs.declared.Command.TheVariants as k
 use Rattle.command.specs.Command.{command_of}
 use Rattle.message.specs.declared.fields.Fields.{Fields}
-use Rattle.message.specs.declared.head.MaybePattern.{MaybePattern}
-use Rattle.message.specs.declared.head.MaybePattern.TheVariants as p
-use Rattle.message.specs.declared.head.MaybeVersion.{MaybeVersion}
-use Rattle.message.specs.declared.head.MaybeVersion.TheVariants as v
 use Rattle.message.specs.declared.head.Head.{Head}
 use Rattle.message.specs.declared.head.Head.TheVariants as h
 use Rattle.message.specs.declared.head.Frame.{Frame}
-use Rattle.message.specs.declared.head.FrameAnswer.{FrameAnswer}
-use Rattle.message.specs.declared.head.FrameAnswer.TheVariants as ra
 use Rattle.ids.specs.Interface.{interface_at, interface_byte}
 use Rattle.message.specs.Fields.{free_fields, request_fields, dump_fields, pattern_fields, notify_fields}
 use Rattle.message.specs.Prefix.{checked_fields}
+use Rattle.ids.specs.declared.pattern.PatternNumber.{PatternNumber}
+use Rattle.ids.specs.declared.version.ProtocolVersion.{ProtocolVersion}
 
 -- a pattern's number where there is one
-abbrev pub pattern_at : Bool → ℕ → MaybePattern
-pattern_at true n = p.Some (record { 0 = n })
-pattern_at false n = p.None
+abbrev pub pattern_at : Bool → ℕ → Option PatternNumber
+pattern_at true n = Some (record { 0 = n })
+pattern_at false n = None
 
 -- the fields of a pattern dump, its number 0 where it has none
-abbrev pub pattern_in : ℕ → MaybePattern → Fields
-pattern_in v (p.Some n) = pattern_fields v n.0 true
-pattern_in v p.None = pattern_fields v 0 false
+abbrev pub pattern_in : ℕ → Option PatternNumber → Fields
+pattern_in v (Some n) = pattern_fields v n.0 true
+pattern_in v None = pattern_fields v 0 false
 
 -- the command of a message
 abbrev pub command_of_head : Head → Command
@@ -106,34 +102,29 @@ head_from k.PolyChordMemoryDumpRequest f = h.PolyChordMemoryDumpRequest
 head_from k.PolyChordMemoryDumpResponse f = h.PolyChordMemoryDumpResponse (record { 0 = f.version })
 
 -- the version, for the messages that carry one
-abbrev pub version_of_head : Head → MaybeVersion
-version_of_head (h.ControlAppNotifyRequest a) = v.None
-version_of_head (h.ProgramDumpRequest a b) = v.None
-version_of_head (h.ProgramDumpResponse a b c) = v.Some a
-version_of_head h.EditBufferDumpRequest = v.None
-version_of_head (h.EditBufferDumpResponse a) = v.Some a
-version_of_head h.GlobalParameterDumpRequest = v.None
-version_of_head (h.GlobalParameterDumpResponse a) = v.Some a
-version_of_head (h.SingleUserPatternDumpRequest a) = v.None
-version_of_head (h.UserPatternDumpResponse a b) = v.Some a
-version_of_head (h.ProgramBankDumpRequest a b c) = v.None
-version_of_head (h.BankProgramNamesDumpRequest a) = v.None
-version_of_head (h.BankProgramNamesDumpResponse a b) = v.Some a
-version_of_head (h.SingleProgramNameDumpRequest a b) = v.None
-version_of_head (h.SingleProgramNameDumpResponse a b) = v.Some a
-version_of_head h.EditBufferPatternDumpRequest = v.None
-version_of_head (h.ControlAppNotifyResponse a b c d e) = v.None
-version_of_head h.CalibrationDataDumpRequest = v.None
-version_of_head (h.CalibrationDataDumpResponse a) = v.Some a
-version_of_head h.ChordMemoryDumpRequest = v.None
-version_of_head (h.ChordMemoryDumpResponse a) = v.Some a
-version_of_head h.PolyChordMemoryDumpRequest = v.None
-version_of_head (h.PolyChordMemoryDumpResponse a) = v.Some a
-
--- the code's answer in document 01's terms
-abbrev pub frame_told : FrameAnswer → Outcome Frame
-frame_told (ra.Ok f) = gives f
-frame_told (ra.Err e) = refusal e
+abbrev pub version_of_head : Head → Option ProtocolVersion
+version_of_head (h.ControlAppNotifyRequest a) = None
+version_of_head (h.ProgramDumpRequest a b) = None
+version_of_head (h.ProgramDumpResponse a b c) = Some a
+version_of_head h.EditBufferDumpRequest = None
+version_of_head (h.EditBufferDumpResponse a) = Some a
+version_of_head h.GlobalParameterDumpRequest = None
+version_of_head (h.GlobalParameterDumpResponse a) = Some a
+version_of_head (h.SingleUserPatternDumpRequest a) = None
+version_of_head (h.UserPatternDumpResponse a b) = Some a
+version_of_head (h.ProgramBankDumpRequest a b c) = None
+version_of_head (h.BankProgramNamesDumpRequest a) = None
+version_of_head (h.BankProgramNamesDumpResponse a b) = Some a
+version_of_head (h.SingleProgramNameDumpRequest a b) = None
+version_of_head (h.SingleProgramNameDumpResponse a b) = Some a
+version_of_head h.EditBufferPatternDumpRequest = None
+version_of_head (h.ControlAppNotifyResponse a b c d e) = None
+version_of_head h.CalibrationDataDumpRequest = None
+version_of_head (h.CalibrationDataDumpResponse a) = Some a
+version_of_head h.ChordMemoryDumpRequest = None
+version_of_head (h.ChordMemoryDumpResponse a) = Some a
+version_of_head h.PolyChordMemoryDumpRequest = None
+version_of_head (h.PolyChordMemoryDumpResponse a) = Some a
 
 -- "5, also for a unit above 0F, then 6 where the command is given as a byte, then 8, 12, 9, 10, 11 in wire order"
 abbrev pub record_frame : DeviceId → ℕ → Fields → Outcome Frame

@@ -1,14 +1,12 @@
 -- A payload's bytes ahead of its run, in wire order, from document 01's list of payloads: what each byte says, and its range.
 use Rattle.std.specs.Prelude.{Bool, true, false, ◌&&◌, ◌||◌, List, [], ◌∷◌, ◌++◌, ℕ, suc, ltb, eqb, get_or}
 use Rattle.laws.specs.Choice.{pick}
-use Rattle.refusal.specs.Outcome.{Outcome, gives, refusal, unless}
+use Rattle.refusal.specs.Outcome.{Outcome, gives, unless}
 use Rattle.command.specs.declared.Command.{Command}
 use Rattle.command.specs.Command.{code_of}
 use Rattle.command.specs.Payload as y
 use Rattle.command.specs.Payload.{Field, payload_of, is_run}
 use Rattle.message.specs.declared.fields.Fields.{Fields}
-use Rattle.message.specs.declared.prefix.FieldsAnswer.{FieldsAnswer}
-use Rattle.message.specs.declared.prefix.FieldsAnswer.TheVariants as fa
 
 -- does a command's message carry a run? The table says so by the word "run"
 abbrev pub carries_run : Command → Bool
@@ -118,8 +116,3 @@ all_fit (f ∷ fs) p i = field_fits f (get_or p i 0) && all_fit fs p (suc i)
 abbrev pub checked_fields : Command → Fields → Outcome Fields
 checked_fields k f =
     checked (field_list k f.has_pattern) (prefix_of k f) 0 (gives (fields_at k f.has_pattern (prefix_of k f)))
-
--- the code's answer in document 01's terms
-abbrev pub fields_told : FieldsAnswer → Outcome Fields
-fields_told (fa.Ok f) = gives f
-fields_told (fa.Err e) = refusal e

@@ -2,8 +2,9 @@
 ghost use Rattle.std.specs.Prelude.{◌≡◌};
 ghost use Rattle.message.specs.Fields.{free_fields, request_fields, dump_fields, pattern_fields, notify_fields};
 
-// Every field that a message can have, as plain numbers; what a message lacks is 0.
-#[derive(Clone, Copy)]
+// Every field that a message can have, as plain numbers; what a message lacks is 0. A flag says whether a pattern's number is there, as the C
+// interface has it.
+#[derive(Clone, Copy, Debug, PartialEq, Eq)]
 pub struct Fields {
     pub free: u8,
     pub version: u8,
@@ -17,12 +18,10 @@ pub struct Fields {
     pub tx: u8,
 }
 
-// The fields of a control application's call.
-pub fn free_fields(free: u8) -> Fields
-    ensures { result ≡ free_fields free }
-{
-    Fields {
-        free: free,
+impl Fields {
+    // No field.
+    pub const BLANK: Fields = Fields {
+        free: 0,
         version: 0,
         bank: 0,
         program: 0,
@@ -32,6 +31,16 @@ pub fn free_fields(free: u8) -> Fields
         interface: 0,
         rx: 0,
         tx: 0,
+    };
+}
+
+// The fields of a control application's call.
+pub fn free_fields(free: u8) -> Fields
+    ensures { result ≡ free_fields free }
+{
+    Fields {
+        free,
+        ..Fields::BLANK
     }
 }
 
@@ -40,16 +49,11 @@ pub fn request_fields(bank: u8, program: u8, last: u8, pattern: u8) -> Fields
     ensures { result ≡ request_fields bank program last pattern }
 {
     Fields {
-        free: 0,
-        version: 0,
-        bank: bank,
-        program: program,
-        last: last,
-        pattern: pattern,
-        has_pattern: false,
-        interface: 0,
-        rx: 0,
-        tx: 0,
+        bank,
+        program,
+        last,
+        pattern,
+        ..Fields::BLANK
     }
 }
 
@@ -58,16 +62,10 @@ pub fn dump_fields(version: u8, bank: u8, program: u8) -> Fields
     ensures { result ≡ dump_fields version bank program }
 {
     Fields {
-        free: 0,
-        version: version,
-        bank: bank,
-        program: program,
-        last: 0,
-        pattern: 0,
-        has_pattern: false,
-        interface: 0,
-        rx: 0,
-        tx: 0,
+        version,
+        bank,
+        program,
+        ..Fields::BLANK
     }
 }
 
@@ -75,18 +73,11 @@ pub fn dump_fields(version: u8, bank: u8, program: u8) -> Fields
 pub fn pattern_fields(version: u8, number: u8, has: bool) -> Fields
     ensures { result ≡ pattern_fields version number has }
 {
-    let pattern = if has { number } else { 0 };
     Fields {
-        free: 0,
         version,
-        bank: 0,
-        program: 0,
-        last: 0,
-        pattern,
+        pattern: if has { number } else { 0 },
         has_pattern: has,
-        interface: 0,
-        rx: 0,
-        tx: 0,
+        ..Fields::BLANK
     }
 }
 
@@ -95,15 +86,11 @@ pub fn notify_fields(rx: u8, tx: u8, interface: u8, bank: u8, program: u8) -> Fi
     ensures { result ≡ notify_fields rx tx interface bank program }
 {
     Fields {
-        free: 0,
-        version: 0,
-        bank: bank,
-        program: program,
-        last: 0,
-        pattern: 0,
-        has_pattern: false,
-        interface: interface,
-        rx: rx,
-        tx: tx,
+        bank,
+        program,
+        interface,
+        rx,
+        tx,
+        ..Fields::BLANK
     }
 }

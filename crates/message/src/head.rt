@@ -1,31 +1,18 @@
 // The 22 messages, as records with the types of their fields.
+ghost use Rattle.refusal.specs.Outcome.{answered};
 ghost use Rattle.std.specs.Prelude.{◌≡◌};
-ghost use Rattle.message.specs.Head.{pattern_at, command_of_head, fields_of, head_from, version_of_head, record_frame, frame_told};
+ghost use Rattle.message.specs.Head.{pattern_at, command_of_head, fields_of, head_from, version_of_head, record_frame};
 
 use crate::fields::{
     Fields, dump_fields, free_fields, notify_fields, pattern_fields, request_fields,
 };
-use crate::prefix::{FieldsAnswer, check};
-use command::{Command, CommandAnswer};
+use crate::prefix::check;
+use command::Command;
 use ids::{Bank, DeviceId, Interface, PatternNumber, ProgramNumber, ProtocolVersion};
-use refusal::Refusal;
-
-// The number of a stored pattern; the one being edited has none.
-#[derive(Clone, Copy)]
-pub enum MaybePattern {
-    Some(PatternNumber),
-    None,
-}
-
-// A protocol version, for the messages that carry one.
-#[derive(Drop)]
-pub enum MaybeVersion {
-    Some(ProtocolVersion),
-    None,
-}
+use refusal::{OfByte, Refusal};
 
 // What a frame says, but for its packed run.
-#[derive(Clone, Copy)]
+#[derive(Clone, Copy, Debug, PartialEq, Eq)]
 pub enum Head {
     // 00: tells the synthesizer that a control application is there
     ControlAppNotifyRequest {
@@ -61,7 +48,7 @@ pub enum Head {
     // 08: a user pattern with its number, or the one being edited
     UserPatternDumpResponse {
         version: ProtocolVersion,
-        pattern: MaybePattern,
+        pattern: Option<PatternNumber>,
     },
     // 09: asks for the programs from first to last
     ProgramBankDumpRequest {
@@ -119,16 +106,10 @@ pub enum Head {
 }
 
 // Whom a frame is for, and what it says.
-#[derive(Drop)]
+#[derive(Clone, Copy, Debug, PartialEq, Eq)]
 pub struct Frame {
     pub device: DeviceId,
     pub head: Head,
-}
-
-#[derive(Drop)]
-pub enum FrameAnswer {
-    Ok(Frame),
-    Err(Refusal),
 }
 
 impl Head {
@@ -137,61 +118,28 @@ impl Head {
         ensures { result ≡ command_of_head self }
     {
         match self {
-            Head::ControlAppNotifyRequest { reserved: _ } => Command::ControlAppNotifyRequest,
-            Head::ProgramDumpRequest {
-                bank: _,
-                program: _,
-            } => Command::ProgramDumpRequest,
-            Head::ProgramDumpResponse {
-                version: _,
-                bank: _,
-                program: _,
-            } => Command::ProgramDumpResponse,
+            Head::ControlAppNotifyRequest { .. } => Command::ControlAppNotifyRequest,
+            Head::ProgramDumpRequest { .. } => Command::ProgramDumpRequest,
+            Head::ProgramDumpResponse { .. } => Command::ProgramDumpResponse,
             Head::EditBufferDumpRequest => Command::EditBufferDumpRequest,
-            Head::EditBufferDumpResponse { version: _ } => Command::EditBufferDumpResponse,
+            Head::EditBufferDumpResponse { .. } => Command::EditBufferDumpResponse,
             Head::GlobalParameterDumpRequest => Command::GlobalParameterDumpRequest,
-            Head::GlobalParameterDumpResponse { version: _ } =>
-                Command::GlobalParameterDumpResponse,
-            Head::SingleUserPatternDumpRequest { pattern: _ } =>
-                Command::SingleUserPatternDumpRequest,
-            Head::UserPatternDumpResponse {
-                version: _,
-                pattern: _,
-            } => Command::UserPatternDumpResponse,
-            Head::ProgramBankDumpRequest {
-                bank: _,
-                first: _,
-                last: _,
-            } => Command::ProgramBankDumpRequest,
-            Head::BankProgramNamesDumpRequest { bank: _ } => Command::BankProgramNamesDumpRequest,
-            Head::BankProgramNamesDumpResponse {
-                version: _,
-                bank: _,
-            } => Command::BankProgramNamesDumpResponse,
-            Head::SingleProgramNameDumpRequest {
-                bank: _,
-                program: _,
-            } => Command::SingleProgramNameDumpRequest,
-            Head::SingleProgramNameDumpResponse {
-                version: _,
-                bank: _,
-            } => Command::SingleProgramNameDumpResponse,
+            Head::GlobalParameterDumpResponse { .. } => Command::GlobalParameterDumpResponse,
+            Head::SingleUserPatternDumpRequest { .. } => Command::SingleUserPatternDumpRequest,
+            Head::UserPatternDumpResponse { .. } => Command::UserPatternDumpResponse,
+            Head::ProgramBankDumpRequest { .. } => Command::ProgramBankDumpRequest,
+            Head::BankProgramNamesDumpRequest { .. } => Command::BankProgramNamesDumpRequest,
+            Head::BankProgramNamesDumpResponse { .. } => Command::BankProgramNamesDumpResponse,
+            Head::SingleProgramNameDumpRequest { .. } => Command::SingleProgramNameDumpRequest,
+            Head::SingleProgramNameDumpResponse { .. } => Command::SingleProgramNameDumpResponse,
             Head::EditBufferPatternDumpRequest => Command::EditBufferPatternDumpRequest,
-            Head::ControlAppNotifyResponse {
-                rx_channel: _,
-                tx_channel: _,
-                interface: _,
-                bank: _,
-                program: _,
-            } => Command::ControlAppNotifyResponse,
+            Head::ControlAppNotifyResponse { .. } => Command::ControlAppNotifyResponse,
             Head::CalibrationDataDumpRequest => Command::CalibrationDataDumpRequest,
-            Head::CalibrationDataDumpResponse { version: _ } =>
-                Command::CalibrationDataDumpResponse,
+            Head::CalibrationDataDumpResponse { .. } => Command::CalibrationDataDumpResponse,
             Head::ChordMemoryDumpRequest => Command::ChordMemoryDumpRequest,
-            Head::ChordMemoryDumpResponse { version: _ } => Command::ChordMemoryDumpResponse,
+            Head::ChordMemoryDumpResponse { .. } => Command::ChordMemoryDumpResponse,
             Head::PolyChordMemoryDumpRequest => Command::PolyChordMemoryDumpRequest,
-            Head::PolyChordMemoryDumpResponse { version: _ } =>
-                Command::PolyChordMemoryDumpResponse,
+            Head::PolyChordMemoryDumpResponse { .. } => Command::PolyChordMemoryDumpResponse,
         }
     }
 
@@ -201,35 +149,43 @@ impl Head {
     {
         match self {
             Head::ControlAppNotifyRequest { reserved } => free_fields(reserved),
-            Head::ProgramDumpRequest { bank, program } => request_fields(bank.0, program.0, 0, 0),
+            Head::ProgramDumpRequest { bank, program }
+            | Head::SingleProgramNameDumpRequest { bank, program } => request_fields(
+                bank.0, program.0, 0, 0,
+            ),
+            Head::SingleUserPatternDumpRequest { pattern } => request_fields(0, 0, 0, pattern.0),
+            Head::ProgramBankDumpRequest { bank, first, last } => request_fields(
+                bank.0, first.0, last.0, 0,
+            ),
+            Head::BankProgramNamesDumpRequest { bank } => request_fields(bank.0, 0, 0, 0),
+            Head::EditBufferDumpRequest
+            | Head::GlobalParameterDumpRequest
+            | Head::EditBufferPatternDumpRequest
+            | Head::CalibrationDataDumpRequest
+            | Head::ChordMemoryDumpRequest
+            | Head::PolyChordMemoryDumpRequest => request_fields(0, 0, 0, 0),
             Head::ProgramDumpResponse {
                 version,
                 bank,
                 program,
             } => dump_fields(version.0, bank.0, program.0),
-            Head::EditBufferDumpRequest => request_fields(0, 0, 0, 0),
-            Head::EditBufferDumpResponse { version } => dump_fields(version.0, 0, 0),
-            Head::GlobalParameterDumpRequest => request_fields(0, 0, 0, 0),
-            Head::GlobalParameterDumpResponse { version } => dump_fields(version.0, 0, 0),
-            Head::SingleUserPatternDumpRequest { pattern } => request_fields(0, 0, 0, pattern.0),
-            Head::UserPatternDumpResponse { version, pattern } => match pattern {
-                MaybePattern::Some(number) => pattern_fields(version.0, number.0, true),
-                MaybePattern::None => pattern_fields(version.0, 0, false),
-            },
-            Head::ProgramBankDumpRequest { bank, first, last } => request_fields(
-                bank.0, first.0, last.0, 0,
-            ),
-            Head::BankProgramNamesDumpRequest { bank } => request_fields(bank.0, 0, 0, 0),
-            Head::BankProgramNamesDumpResponse { version, bank } => dump_fields(
+            Head::BankProgramNamesDumpResponse { version, bank }
+            | Head::SingleProgramNameDumpResponse { version, bank } => dump_fields(
                 version.0, bank.0, 0,
             ),
-            Head::SingleProgramNameDumpRequest { bank, program } => request_fields(
-                bank.0, program.0, 0, 0,
-            ),
-            Head::SingleProgramNameDumpResponse { version, bank } => dump_fields(
-                version.0, bank.0, 0,
-            ),
-            Head::EditBufferPatternDumpRequest => request_fields(0, 0, 0, 0),
+            Head::EditBufferDumpResponse { version }
+            | Head::GlobalParameterDumpResponse { version }
+            | Head::CalibrationDataDumpResponse { version }
+            | Head::ChordMemoryDumpResponse { version }
+            | Head::PolyChordMemoryDumpResponse { version } => dump_fields(version.0, 0, 0),
+            Head::UserPatternDumpResponse {
+                version,
+                pattern: Some(number),
+            } => pattern_fields(version.0, number.0, true),
+            Head::UserPatternDumpResponse {
+                version,
+                pattern: None,
+            } => pattern_fields(version.0, 0, false),
             Head::ControlAppNotifyResponse {
                 rx_channel,
                 tx_channel,
@@ -243,12 +199,6 @@ impl Head {
                 bank.0,
                 program.0,
             ),
-            Head::CalibrationDataDumpRequest => request_fields(0, 0, 0, 0),
-            Head::CalibrationDataDumpResponse { version } => dump_fields(version.0, 0, 0),
-            Head::ChordMemoryDumpRequest => request_fields(0, 0, 0, 0),
-            Head::ChordMemoryDumpResponse { version } => dump_fields(version.0, 0, 0),
-            Head::PolyChordMemoryDumpRequest => request_fields(0, 0, 0, 0),
-            Head::PolyChordMemoryDumpResponse { version } => dump_fields(version.0, 0, 0),
         }
     }
 
@@ -328,40 +278,36 @@ impl Head {
     }
 
     // The protocol version, for the messages that carry one.
-    pub fn version(self) -> MaybeVersion
+    pub fn version(self) -> Option<ProtocolVersion>
         ensures { result ≡ version_of_head self }
     {
         if self.command().carries_run() {
-            return MaybeVersion::Some(ProtocolVersion(self.to_fields().version));
+            Some(ProtocolVersion(self.to_fields().version))
+        } else {
+            None
         }
-        MaybeVersion::None
     }
 }
 
-fn tested_pattern(has: bool, number: u8) -> MaybePattern
+fn tested_pattern(has: bool, number: u8) -> Option<PatternNumber>
     ensures { result ≡ pattern_at has number }
 {
     if has {
-        return MaybePattern::Some(PatternNumber(number));
+        Some(PatternNumber(number))
+    } else {
+        None
     }
-    MaybePattern::None
 }
 
 // The frame of plain numbers. Refuses 5, 6, then 8, 12, 9, 10, 11 in wire order.
-pub fn from_record(device: DeviceId, command: u8, fields: Fields) -> FrameAnswer
-    ensures { frame_told result ≡ record_frame device command fields }
+pub fn from_record(device: DeviceId, command: u8, fields: Fields) -> Result<Frame, Refusal>
+    ensures { answered result ≡ record_frame device command fields }
 {
-    if !framing::device_in_range(device) {
-        return FrameAnswer::Err(Refusal::InvalidDeviceId(device.to_byte()));
-    }
-    match Command::from_byte(command) {
-        CommandAnswer::Err(e) => FrameAnswer::Err(e),
-        CommandAnswer::Ok(known) => match check(known, fields) {
-            FieldsAnswer::Err(e) => FrameAnswer::Err(e),
-            FieldsAnswer::Ok(own) => FrameAnswer::Ok(Frame {
-                device,
-                head: Head::from_tested(known, own),
-            }),
-        },
-    }
+    framing::device_byte(device)?;
+    let known = Command::from_byte(command)?;
+    let own = check(known, fields)?;
+    Ok(Frame {
+        device,
+        head: Head::from_tested(known, own),
+    })
 }

@@ -6,5 +6,5 @@ pub mod head;
 pub mod prefix;
 
 pub use fields::Fields;
-pub use head::{Frame, FrameAnswer, Head, MaybePattern, MaybeVersion};
-pub use prefix::{FieldsAnswer, Prefix};
+pub use head::{Frame, Head};
+pub use prefix::Prefix;

@@ -4,51 +4,23 @@ use mathlib.Core.Bool.{Bool, true, false, ◌&&◌, ◌||◌, not}
 use mathlib.Core.List.{List, [], ◌∷◌}
 use Prim.Native.Nat.{ℕ, ◌+◌, ◌-◌, ◌%◌, ◌≤◌, ◌<◌}
 use native.Mathlib.Omega.{arith}
-use lib.Dec.{ltb, leb, eqb}
+use lib.Dec.{eqb}
 use lib.ListN.{length}
-use borrow.Author.Tests.{le-leb, lt-leb, lt-ltb, le-ltb, eq-eqb, ne_eqb, eqb-true, ltb-true, ltb-false, leb-true}
+use borrow.Author.Tests.{le-leb, lt-leb, eq-eqb, ne_eqb, eqb-true}
 use Rattle.laws.specs.Choice.{pick}
-use Rattle.laws.proofs.Tests.{by_test, split, alike, alike_same}
-use Rattle.refusal.specs.declared.Refusal.{Refusal}
-use Rattle.refusal.specs.Refusal.{number_of, values_of}
-use Rattle.refusal.specs.Outcome.{gives, refused, refusal, unless}
-use Rattle.refusal.proofs.Given.{given_not_refused}
+use Rattle.laws.proofs.Tests.{split, alike, alike_same}
+use Rattle.refusal.specs.Outcome.{refused, unless}
 use Rattle.command.specs.declared.Command.{Command}
 use Rattle.command.specs.declared.Command.TheVariants as k
 use Rattle.command.specs.Command.{code_of}
 use Rattle.command.specs.Payload as y
 use Rattle.command.specs.Payload.{Run, payload_of, run_length, raw_length_for}
 use Rattle.command.proofs.Table.{same_code, of_every}
-use Rattle.packed.specs.Packed.{unpacked_length, unpacked_length_of, packed_length}
-use Rattle.packed.proofs.Lengths.{unpacked_given}
+use Rattle.packed.specs.Packed.{packed_length}
 use Rattle.message.specs.Prefix.{carries_run, optional, fields_at, field_ok}
 use Rattle.message.specs.quick.Prefix.{small_checked}
 use Rattle.message.proofs.prefix.ByKind.{checked_by_kind, version_first}
-use Rattle.frame_reader.specs.Payload.{accepted, numbered_by, prefix_length, early, when_length, read_fields, is_any, version_in, read_run}
-
--- lengths that do not unpack are not accepted
-pub not_unpacked : (raw n : ℕ) (e : Refusal) → refusal e ≡ unpacked_length_of n → false ≡ accepted raw n
-not_unpacked raw n e h = go (not (eqb (n % 8) 1)) h
-  where
-    go : (t : Bool) → refusal {A = ℕ} e ≡ unless t 13 (n ∷ []) (gives (unpacked_length n)) → false ≡ (t && leb raw (unpacked_length n) && ltb (unpacked_length n) (raw + 7))
-    go true g = absurd (given_not_refused (unpacked_length n) (number_of e) (values_of e) g)
-    go false g = refl
-
--- a length that unpacks is accepted by how many raw bytes it holds
-pub unpacked_holds : (raw n held : ℕ) → gives held ≡ unpacked_length_of n → accepted raw n ≡ (leb raw held && ltb held (raw + 7))
-unpacked_holds raw n held h =
-    let g = unpacked_given n held h in
-    rw (g.1, ← g.0)
-
-pub holds_too_little : (raw n held : ℕ) → gives held ≡ unpacked_length_of n → held < raw → false ≡ accepted raw n
-holds_too_little raw n held h less = sym (unpacked_holds raw n held h ∙ rw (lt-leb raw held less))
-
-pub holds_enough : (raw n held : ℕ) → gives held ≡ unpacked_length_of n → raw ≤ held → ltb (held - raw) 7 ≡ accepted raw n
-holds_enough raw n held h least = sym (unpacked_holds raw n held h ∙ rw (le-leb raw held least) (go (ltb (held - raw) 7) refl))
-  where
-    go : (t : Bool) → ltb (held - raw) 7 ≡ t → ltb held (raw + 7) ≡ t
-    go true e = lt-ltb held (raw + 7) (omega (arith, ltb-true (held - raw) 7 e))
-    go false e = le-ltb held (raw + 7) (omega (arith, ltb-false (held - raw) 7 e))
+use Rattle.frame_reader.specs.Payload.{accepted, numbered_by, prefix_length, when_length, read_fields, is_any, version_in, read_run}
 
 -- a pattern's number
 pub numbered_short : (n : ℕ) → n < 2 → false ≡ numbered_by n
@@ -65,9 +37,6 @@ fields_tested c b p h = checked_by_kind c b p ∙ go (carries_run c) refl
         → pick t (field_ok y.version (fields_at c b p).version (small_checked (fields_at c b p))) (small_checked (fields_at c b p)) ≡ small_checked (fields_at c b p)
     go true e = rw (version_first c b p e, h)
     go false e = refl
-
-pub fields_untested : (c : Command) (b : Bool) (p : List ℕ) → carries_run c ≡ false → read_fields c b p ≡ small_checked (fields_at c b p)
-fields_untested c b p h = checked_by_kind c b p ∙ rw h
 
 -- the one payload whose number may be missing is the pattern dump's
 pub optional_is : (c : Command) → optional c ≡ true → c ≡ k.UserPatternDumpResponse
@@ -90,17 +59,6 @@ any_is c = alike_same (is_any (payload_of c).run) (eqb (code_of c) 0x12) (of_eve
 
 unnumbered : (c : Command) (b : Bool) (p : List ℕ) → code_of c ≡ 0x12 → read_fields c b p ≡ read_fields c false p
 unnumbered c b p h = rw h
-
--- version 7 names the longest runs
-most_named : (r : Run) (v : ℕ) → run_length r v ≤ run_length r 7
-most_named y.none v = omega arith
-most_named y.program_data v = by_test (λ (n : ℕ). n ≤ 245) (eqb v 6) 242 245 (λ e. omega arith) (λ e. omega arith)
-most_named (y.fixed n) v = omega arith
-most_named y.any v = omega arith
-
--- no named length is above 2,048
-pub raw_small : (c : Command) (v : ℕ) → raw_length_for c v ≤ 2048
-raw_small c v = omega (arith, most_named (payload_of c).run v, leb-true (raw_length_for c 7) 2048 (of_every (λ j. leb (raw_length_for j 7) 2048) refl c))
 
 -- a payload with a version but without all of its prefix is refused with 7
 pub run_too_short : (c : Command) (v : ℕ) (p : List ℕ) → length p < prefix_length c → refused 7 (code_of c ∷ prefix_length c ∷ length p ∷ []) ≡ read_run c v p
@@ -133,11 +91,3 @@ pub run_refused : (c : Command) (v : ℕ) (p : List ℕ) → prefix_length c ≤
     → accepted (raw_length_for c v) (length p - prefix_length c) ≡ false → (optional c && numbered_by (length p)) ≡ false
     → refused 7 (code_of c ∷ (prefix_length c + packed_length (raw_length_for c v)) ∷ length p ∷ []) ≡ read_run c v p
 run_refused c v p h n e o = sym (named_run c v p false h n e ∙ rw o)
-
--- at least the version is looked for
-pub early_one : (c : Command) → 1 ≤ early c
-early_one c = go (eqb (code_of c) 0x0B || eqb (code_of c) 0x0D)
-  where
-    go : (t : Bool) → 1 ≤ pick t 2 1
-    go true = omega arith
-    go false = omega arith

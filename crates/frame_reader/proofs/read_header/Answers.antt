@@ -2,34 +2,20 @@
 use Rattle.frame_reader.proofs.Parts.{payload_part}
 use borrow.Author.Tests.{le-leb}
 use mathlib.Core.Path.{sym, ◌∙◌}
+use Rattle.std.proofs.Common.{rules}
 use Rattle.frame_reader.proofs.read_header.Goals as goal
 
-pub returns-in-Err-read_payload : goal.returns-in-Err-read_payload
-returns-in-Err-read_payload c =
+pub returns-in_err-fields : goal.returns-in_err-fields
+returns-in_err-fields c =
     rw (
       le-leb 8 _ c.if-len-lt8.false,
       sym c.same_bytes.ensures ∙ c.if-not-same_bytes.false,
       ← c.from_byte.ensures,
-      c.in-Ok.is,
-      ← c.from_byte-in-Ok.ensures,
-      c.in-Ok-from_byte.is,
+      c.in_ok-device.was,
+      ← c.from_byte-2.ensures,
+      c.in_ok-command.was,
       ← payload_part
           c.args.bytes.now,
       ← c.read_payload.ensures,
-      c.in-Err-read_payload.is,
-    )
-
-pub returns-in-Ok-read_payload : goal.returns-in-Ok-read_payload
-returns-in-Ok-read_payload c =
-    rw (
-      le-leb 8 _ c.if-len-lt8.false,
-      sym c.same_bytes.ensures ∙ c.if-not-same_bytes.false,
-      ← c.from_byte.ensures,
-      c.in-Ok.is,
-      ← c.from_byte-in-Ok.ensures,
-      c.in-Ok-from_byte.is,
-      ← payload_part
-          c.args.bytes.now,
-      ← c.read_payload.ensures,
-      c.in-Ok-read_payload.is,
-    )
+      c.in_err-fields.was,
+    ) (search rules)
