@@ -1,5 +1,6 @@
 -- The first held key is the lowest held key of the lowest channel that has one, and the answer is none exactly if no key is held, because
 -- the search passes every key below the one that it answers.
+use Rattle.std.specs.Prelude.{None, Some}
 use mathlib.Core.Path.{◌≡◌, refl, ap, ap₂, sym, ◌∙◌}
 use mathlib.Core.Bool.{true, false}
 use mathlib.Core.Logic.{◌⊎◌, inl, inr}
@@ -12,7 +13,6 @@ use borrow.Author.Tests.{ltb-true, ltb-false}
 use Rattle.laws.specs.Tabulate.{tab}
 use Rattle.laws.proofs.Tabulate.{tab_more, tab_add}
 use Rattle.laws.proofs.Tests.{split}
-use Rattle.held_keys.specs.declared.FirstHeld.TheVariants as f
 use Rattle.held_keys.specs.HeldKeys.{is_held, every_key, first_of, first_held}
 
 module _ (keys : List (List ℕ)) where
@@ -47,7 +47,7 @@ module _ (keys : List (List ℕ)) where
       ∙ (rw (none n (omega arith)))
 
   -- the search ends at the first held key
-  found : (n : ℕ) → n < 2048 → NoneBelow n → is_held keys (n / 128) (n % 128) ≡ true → first_held keys ≡ f.Some (n / 128) (n % 128)
+  found : (n : ℕ) → n < 2048 → NoneBelow n → is_held keys (n / 128) (n % 128) ≡ true → first_held keys ≡ Some (n / 128, n % 128)
   unfolding every_key first_of
   found n h none e =
       let place : ℕ → ℕ × ℕ = λ i. (i / 128, i % 128) in
@@ -59,14 +59,14 @@ module _ (keys : List (List ℕ)) where
       ∙ passed n (place n ∷ rest) none
       ∙ (rw e)
 
-  pub found_key : (c k : ℕ) → c < 16 → k < 128 → NoneBelow (128 * c + k) → is_held keys c k ≡ true → first_held keys ≡ f.Some c k
+  pub found_key : (c k : ℕ) → c < 16 → k < 128 → NoneBelow (128 * c + k) → is_held keys c k ≡ true → first_held keys ≡ Some (c, k)
   found_key c k hc hk none e =
       let channel : (128 * c + k) / 128 ≡ c = omega arith in
       let key : (128 * c + k) % 128 ≡ k = omega arith in
-      found (128 * c + k) (omega arith) none (there c k hk ∙ e) ∙ ap₂ (λ (x y : ℕ). f.Some x y) channel key
+      found (128 * c + k) (omega arith) none (there c k hk ∙ e) ∙ ap₂ (λ (x y : ℕ). Some (x, y)) channel key
 
   -- the search says none where no key is held
-  pub found_none : NoneBelow 2048 → first_held keys ≡ f.None
+  pub found_none : NoneBelow 2048 → first_held keys ≡ None
   unfolding every_key first_of
   found_none none =
       let place : ℕ → ℕ × ℕ = λ i. (i / 128, i % 128) in
@@ -80,7 +80,7 @@ module _ (keys : List (List ℕ)) where
     pub is : is_held keys channel key ≡ true
     pub below : (k : ℕ) → k < key → is_held keys channel k ≡ false
     pub lower : (c k : ℕ) → c < channel → k < 128 → is_held keys c k ≡ false
-    pub says : first_held keys ≡ f.Some channel key
+    pub says : first_held keys ≡ Some (channel, key)
 
   -- no key is held
   abbrev pub NoneHeld : Type 0
@@ -117,9 +117,9 @@ module _ (keys : List (List ℕ)) where
           (λ (t : is_held keys c k ≡ false). inr (one_more n t none))
 
   -- the search answers the lowest held key, or none, and then no key is held
-  pub first_is_lowest : Lowest ⊎ (NoneHeld × (first_held keys ≡ f.None))
+  pub first_is_lowest : Lowest ⊎ (NoneHeld × (first_held keys ≡ None))
   first_is_lowest = go (look 2048 (omega arith))
     where
-      go : Lowest ⊎ NoneBelow 2048 → Lowest ⊎ (NoneHeld × (first_held keys ≡ f.None))
+      go : Lowest ⊎ NoneBelow 2048 → Lowest ⊎ (NoneHeld × (first_held keys ≡ None))
       go (inl x) = inl x
       go (inr none) = inr ((λ c k hc hk. ahead 2048 c k none (omega arith) hk), found_none none)

@@ -2,29 +2,31 @@
 use mathlib.Core.Path.{◌≡◌, refl, ap, ◌∙◌}
 use mathlib.Core.Bool.{Bool, true, false}
 use mathlib.Core.List.{List, [], ◌∷◌}
-use Prim.Native.Nat.{ℕ, zero, suc, ◌+◌, ◌/◌, ◌%◌, ◌^◌, ◌<◌}
-use native.Mathlib.Nat.{zero-div, add-zero}
-use native.Mathlib.Numerals.{add-one}
+use Prim.Native.Nat.{ℕ, zero, suc, ◌/◌, ◌%◌, ◌^◌, ◌<◌}
 use native.Mathlib.Omega.{arith}
+use Rattle.std.proofs.Common.{bit_and, bit_or, ◌*◌, ◌-◌}
+use Rattle.std.proofs.lemmas.Nat.{or_lt, and_le_l}
 use lib.Dec.{eqb}
 use lib.ListN.{length, get_or, set, replicate, length-set}
 use lib.Seq.{get_or-set_same, get_or-set_other}
 use borrow.Author.Tests.{eq-eqb, ne_eqb, eqb-true, eqb-false}
 use Rattle.laws.specs.Choice.{pick}
-use Rattle.laws.proofs.Tests.{split}
+use Rattle.laws.proofs.Tests.{split, by_test}
 use Rattle.wire.specs.declared.channel_message.ChannelMessage.{ChannelMessage}
 use Rattle.wire.specs.declared.channel_message.ChannelMessage.TheVariants as m
 use Rattle.held_keys.specs.declared.Effect.{Effect}
 use Rattle.held_keys.specs.declared.Effect.TheVariants as e
-use Rattle.held_keys.specs.HeldKeys.{bit, is_held, effect_of, count_below}
-use Rattle.held_keys.specs.Record.{Shaped}
+use Rattle.held_keys.specs.HeldKeys.{bit, is_held, effect_of, held_after}
+use Rattle.held_keys.specs.Record.{Shaped, record_after}
+use Rattle.held_keys.proofs.Bits.{bit_zero, bit_with, bit_without}
+use Rattle.held_keys.proofs.Made.{afterwards_is}
 
 -- the record with one word of one channel stored
 abbrev pub stored_word : List (List ℕ) → ℕ → ℕ → ℕ → List (List ℕ)
 stored_word keys ch at word = set keys ch (set (get_or keys ch []) at word)
 
 module _ (keys : List (List ℕ)) (ch key word : ℕ) (v : Bool) (inside : ch < length keys) (two : length (get_or keys ch []) ≡ 2) (small : key < 128)
-    (changed : (j : ℕ) → bit word j ≡ pick (eqb j (key % 64)) v (bit (get_or (get_or keys ch []) (key / 64) 0) j)) where
+    (changed : (j : ℕ) → j < 64 → bit word j ≡ pick (eqb j (key % 64)) v (bit (get_or (get_or keys ch []) (key / 64) 0) j)) where
   -- the channel stored to, and every other
   own : (c : ℕ) → eqb c ch ≡ true → get_or (stored_word keys ch (key / 64) word) c [] ≡ set (get_or keys ch []) (key / 64) word
   own c t = rw (eqb-true c ch t) (get_or-set_same keys ch (set (get_or keys ch []) (key / 64) word) [] inside)
@@ -34,9 +36,9 @@ module _ (keys : List (List ℕ)) (ch key word : ℕ) (v : Bool) (inside : ch < 
 
   same_word : (k : ℕ) (t : Bool) → eqb k key ≡ t → k / 64 ≡ key / 64
       → bit word (k % 64) ≡ pick t v (bit (get_or (get_or keys ch []) (k / 64) 0) (k % 64))
-  same_word k true e w = changed (k % 64) ∙ rw (eqb-true k key e, eq-eqb (key % 64) (key % 64) refl)
+  same_word k true e w = changed (k % 64) (omega arith) ∙ rw (eqb-true k key e, eq-eqb (key % 64) (key % 64) refl)
   same_word k false e w =
-      changed (k % 64) ∙ rw (ne_eqb (k % 64) (key % 64) (λ q. eqb-false k key e (omega arith)), w)
+      changed (k % 64) (omega arith) ∙ rw (ne_eqb (k % 64) (key % 64) (λ q. eqb-false k key e (omega arith)), w)
 
   own_channel : (k : ℕ) (s : Bool) → eqb (k / 64) (key / 64) ≡ s
       → bit (get_or (set (get_or keys ch []) (key / 64) word) (k / 64) 0) (k % 64)
@@ -92,13 +94,44 @@ key_small (m.ProgramChange a) = omega arith
 key_small (m.ChannelPressure a) = omega arith
 key_small (m.PitchBend a) = omega arith
 
--- no key is held where every word is 0
-pub zero_word : (k : ℕ) → bit 0 k ≡ false
-zero_word k = rw (zero-div (2 ^ k))
+module _ (keys : List (List ℕ)) (p : Shaped keys) (ch key : ℕ) (m : ChannelMessage) (inside : ch < 16) where
+  -- the key's word, and the record with another word in its place
+  abbrev old_word : ℕ
+  old_word = get_or (get_or keys ch []) (key / 64) 0
 
+  changed_word : (word : ℕ) (v : Bool) → key < 128 → word < 2 ^ 64 → ((j : ℕ) → j < 64 → bit word j ≡ pick (eqb j (key % 64)) v (bit old_word j))
+      → ((k : ℕ) (before : Bool) → held_after (effect_of m) k before ≡ pick (eqb k key) v before) → stored_word keys ch (key / 64) word ≡ record_after keys ch m
+  changed_word word v small bits changed does =
+      let room : ch < length keys = omega (arith, p.channels) in
+      afterwards_is keys ch m (stored_word keys ch (key / 64) word) inside (stored_shaped keys ch key word v room (p.words ch inside) small changed p bits)
+      (λ c k. held_stored keys ch key word v room (p.words ch inside) small changed c k ∙ (rw (does k (is_held keys c k))))
+
+  pub hold_after : effect_of m ≡ e.Hold key → stored_word keys ch (key / 64) (bit_or old_word (1 * 2 ^ (key % 64) % 2 ^ 64)) ≡ record_after keys ch m
+  hold_after is =
+      let small : key < 128 = rw (ap key_of is) at (key_small m) in
+      changed_word (bit_or old_word (1 * 2 ^ (key % 64) % 2 ^ 64)) true small
+      (or_lt 64 old_word (1 * 2 ^ (key % 64) % 2 ^ 64) (p.bits ch (key / 64) inside (omega arith)) (omega arith))
+      (λ j b. bit_with old_word (key % 64) j (omega arith))
+      (λ k before. rw is)
+
+  pub release_after : effect_of m ≡ e.Release key
+      → stored_word keys ch (key / 64) (bit_and old_word (2 ^ 64 - 1 - 1 * 2 ^ (key % 64) % 2 ^ 64)) ≡ record_after keys ch m
+  release_after is =
+      let small : key < 128 = rw (ap key_of is) at (key_small m) in
+      changed_word (bit_and old_word (2 ^ 64 - 1 - 1 * 2 ^ (key % 64) % 2 ^ 64)) false small
+      (omega (arith, p.bits ch (key / 64) inside (omega arith), and_le_l old_word (2 ^ 64 - 1 - 1 * 2 ^ (key % 64) % 2 ^ 64)))
+      (λ j b. bit_without old_word (key % 64) j (omega arith) b)
+      (λ k before. rw is)
+
+-- where a message has no effect, the record stays
+pub nothing_after : (keys : List (List ℕ)) → Shaped keys → (ch : ℕ) (m : ChannelMessage) → ch < 16 → effect_of m ≡ e.Nothing → keys ≡ record_after keys ch m
+nothing_after keys p ch m inside is =
+    afterwards_is keys ch m keys inside p (λ c k. by_test (λ (x : Bool). is_held keys c k ≡ x) (eqb c ch) _ _ (λ t. rw is) (λ t. refl))
+
+-- no key is held where every word is 0
 none_in_words : (n at k : ℕ) → bit (get_or (replicate n 0) at 0) k ≡ false
-none_in_words zero at k = zero_word k
-none_in_words (suc n) zero k = zero_word k
+none_in_words zero at k = bit_zero k
+none_in_words (suc n) zero k = bit_zero k
 none_in_words (suc n) (suc at) k = none_in_words n at k
 
 pub none_held : (n c k : ℕ) → is_held (replicate n (0 ∷ 0 ∷ [])) c k ≡ false
@@ -106,12 +139,3 @@ unfolding is_held
 none_held zero c k = none_in_words 0 (k / 64) (k % 64)
 none_held (suc n) zero k = none_in_words 2 (k / 64) (k % 64)
 none_held (suc n) (suc c) k = none_held n c k
-
--- one key more is counted
-pub count_more : (held : ℕ → Bool) (n count : ℕ) → held n ≡ true → count ≡ count_below held n → count + 1 ≡ count_below held (n + 1)
-unfolding count_below
-count_more held n count h e = rw (add-one n, h, e)
-
-pub count_same : (held : ℕ → Bool) (n count : ℕ) → held n ≡ false → count ≡ count_below held n → count ≡ count_below held (n + 1)
-unfolding count_below
-count_same held n count h e = rw (add-one n, h, add-zero) e

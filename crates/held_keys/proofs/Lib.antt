@@ -1,4 +1,5 @@
 pub mod Bits
+pub mod Counted
 pub mod First
 pub mod Keys
 pub mod Known

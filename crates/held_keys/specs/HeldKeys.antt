@@ -1,16 +1,13 @@
 -- The held keys of document 01: "For 16 channels of 128 keys: a note on holds its key, a note off releases it".
-use Rattle.std.specs.Prelude.{Bool, true, false, List, [], ◌∷◌, ℕ, zero, suc, ◌+◌, ◌/◌, ◌%◌, ◌^◌, ltb, eqb, get_or}
+use Rattle.std.specs.Prelude.{Bool, true, false, List, [], ◌∷◌, ℕ, zero, suc, ◌+◌, ◌/◌, ◌%◌, ◌^◌, ltb, eqb, get_or, Err, None, Ok, Option, Result, Some, ⊤}
 use Rattle.laws.specs.Choice.{pick}
 use Rattle.laws.specs.Tabulate.{tab}
 use Rattle.refusal.specs.Outcome.{Outcome, gives, refusal, unless}
+use Rattle.refusal.specs.declared.Refusal.{Refusal}
 use Rattle.wire.specs.declared.channel_message.ChannelMessage.{ChannelMessage}
 use Rattle.wire.specs.declared.channel_message.ChannelMessage.TheVariants as m
 use Rattle.held_keys.specs.declared.Effect.{Effect}
 use Rattle.held_keys.specs.declared.Effect.TheVariants as e
-use Rattle.held_keys.specs.declared.KeyAnswer.{KeyAnswer}
-use Rattle.held_keys.specs.declared.KeyAnswer.TheVariants as a
-use Rattle.held_keys.specs.declared.FirstHeld.{FirstHeld}
-use Rattle.held_keys.specs.declared.FirstHeld.TheVariants as f
 
 -- is bit k of a word set?
 abbrev pub bit : ℕ → ℕ → Bool
@@ -45,9 +42,9 @@ abbrev pub key_answer : ℕ → Outcome ℕ
 key_answer channel = unless (ltb channel 16) 17 (channel ∷ []) (gives 0)
 
 -- what an answer tells
-abbrev pub key_told : KeyAnswer → Outcome ℕ
-key_told a.Ok = gives 0
-key_told (a.Err r) = refusal r
+abbrev pub key_told : Result ⊤ Refusal → Outcome ℕ
+key_told (Ok u) = gives 0
+key_told (Err r) = refusal r
 
 -- how many of the first n keys are held
 unfoldable pub count_below : (ℕ → Bool) → ℕ → ℕ
@@ -63,10 +60,10 @@ unfoldable pub every_key : List (ℕ × ℕ)
 every_key = tab (λ i. (i / 128, i % 128)) 2048
 
 -- the first key of a list that is held, or none
-unfoldable pub first_of : List (List ℕ) → List (ℕ × ℕ) → FirstHeld
-first_of keys [] = f.None
-first_of keys (at ∷ later) = pick (is_held keys at.0 at.1) (f.Some at.0 at.1) (first_of keys later)
+unfoldable pub first_of : List (List ℕ) → List (ℕ × ℕ) → Option (ℕ × ℕ)
+first_of keys [] = None
+first_of keys (at ∷ later) = pick (is_held keys at.0 at.1) (Some at) (first_of keys later)
 
 -- "the first held key, lowest channel and then lowest key, or none"
-abbrev pub first_held : List (List ℕ) → FirstHeld
+abbrev pub first_held : List (List ℕ) → Option (ℕ × ℕ)
 first_held keys = first_of keys every_key

@@ -7,14 +7,13 @@ ghost use Rattle.wire.specs.ChannelMessage.{channel_kind};
 ghost use Rattle.host_held_keys.specs.Held.{fresh_write, HeldSent, count_in, first_in};
 
 use held_keys::bytes::HELD_LEN;
-use held_keys::{FirstHeld, KeyAnswer};
 use host_answer::Answer;
 use refusal::Refusal;
-use wire::{Channel, ChannelMessage, MaybeChannelMessage};
+use wire::{Channel, ChannelMessage};
 
-// The first held key. number: 0, or 20. found: 1 where a key is held, and then its channel and key.
+// The first held key, in numbers for C. number: 0, or 20. found: 1 where a key is held, and then its channel and key.
 #[repr(C)]
-#[derive(Drop)]
+#[derive(Clone, Copy, Debug, PartialEq, Eq)]
 pub struct HeldAnswer {
     pub number: u64,
     pub found: u64,
@@ -26,10 +25,10 @@ pub struct HeldAnswer {
 pub fn dm_held_fresh(keys: &mut [u8]) -> Answer
     ensures { Sends (fresh_write keys.old) result keys.old keys.new }
 {
-    if keys.len() != HELD_LEN {
-        return host_answer::refused(Refusal::BadStore);
-    }
-    held_keys::bytes::put_keys(held_keys::new(), keys);
+    let Some(bytes) = keys.as_mut_array::<HELD_LEN>() else {
+        return Answer::from(Refusal::BadStore);
+    };
+    held_keys::bytes::put_keys(held_keys::new(), bytes);
     host_answer::done(HELD_LEN as u64)
 }
 
@@ -37,20 +36,18 @@ pub fn dm_held_fresh(keys: &mut [u8]) -> Answer
 pub fn dm_held_apply(keys: &mut [u8], nibble: u8, channel: u8, a: u16, b: u8) -> Answer
     ensures { HeldSent (channel_kind nibble a b) channel result keys.old keys.new }
 {
-    if keys.len() != HELD_LEN {
-        return host_answer::refused(Refusal::BadStore);
-    }
-    match ChannelMessage::from_nibble(nibble, a, b) {
-        MaybeChannelMessage::None => host_answer::no_record(),
-        MaybeChannelMessage::Some(message) => {
-            let mut record = held_keys::bytes::keys_of(keys);
-            match held_keys::apply(&mut record, Channel(channel), message) {
-                KeyAnswer::Err(e) => host_answer::refused(e),
-                KeyAnswer::Ok => {
-                    held_keys::bytes::put_keys(record, keys);
-                    host_answer::done(0)
-                }
-            }
+    let Some(bytes) = keys.as_mut_array::<HELD_LEN>() else {
+        return Answer::from(Refusal::BadStore);
+    };
+    let Some(message) = ChannelMessage::from_nibble(nibble, a, b) else {
+        return host_answer::no_record();
+    };
+    let mut record = held_keys::bytes::keys_of(bytes);
+    match held_keys::apply(&mut record, Channel(channel), message) {
+        Err(e) => Answer::from(e),
+        Ok(()) => {
+            held_keys::bytes::put_keys(record, bytes);
+            host_answer::done(0)
         }
     }
 }
@@ -59,32 +56,32 @@ pub fn dm_held_apply(keys: &mut [u8], nibble: u8, channel: u8, a: u16, b: u8) ->
 pub fn dm_held_count(keys: &[u8], channel: u8) -> Answer
     ensures { result ≡ answer_of (count_in keys.now channel) }
 {
-    if keys.len() != HELD_LEN {
-        return host_answer::refused(Refusal::BadStore);
-    }
-    host_answer::count(held_keys::count_held(held_keys::bytes::keys_of(keys), Channel(channel)))
+    let Some(bytes) = keys.as_array::<HELD_LEN>() else {
+        return Answer::from(Refusal::BadStore);
+    };
+    Answer::from(held_keys::count_held(held_keys::bytes::keys_of(bytes), Channel(channel)))
 }
 
 // The held key on the lowest channel, and there the lowest key. Refuses 20 for the length.
 pub fn dm_held_first(keys: &[u8]) -> HeldAnswer
     ensures { result ≡ first_in keys.now }
 {
-    if keys.len() != HELD_LEN {
+    let Some(bytes) = keys.as_array::<HELD_LEN>() else {
         return HeldAnswer {
             number: 20,
             found: 0,
             channel: 0,
             key: 0,
         };
-    }
-    match held_keys::first_held(held_keys::bytes::keys_of(keys)) {
-        FirstHeld::Some { channel, key } => HeldAnswer {
+    };
+    match held_keys::first_held(held_keys::bytes::keys_of(bytes)) {
+        Some((channel, key)) => HeldAnswer {
             number: 0,
             found: 1,
             channel: channel as u64,
             key: key as u64,
         },
-        FirstHeld::None => HeldAnswer {
+        None => HeldAnswer {
             number: 0,
             found: 0,
             channel: 0,

@@ -51,8 +51,7 @@ word_stored keys l bytes later i h e long p q =
     ∙ window_group (byte_of keys) (octet word) l (8 * i) 8 (λ k b. word_bytes keys i k b) (omega arith)
     ∙ ap (λ (n : ℕ). window l 0 (tab (byte_of keys) n)) next
 
-pub words_all : (keys : List (List ℕ)) (l bytes : List ℕ) (i : ℕ) → i ≡ 32 → length l ≡ 256 → bytes ≡ window l 0 (tab (byte_of keys) (8 * i))
+pub words_all : (keys : List (List ℕ)) (l bytes : List ℕ) (n : ℕ) → n ≡ 256 → length l ≡ 256 → bytes ≡ window l 0 (tab (byte_of keys) n)
     → bytes ≡ bytes_of_keys keys
 unfolding bytes_of_keys
-words_all keys l bytes i last e p =
-    p ∙ ap (λ (n : ℕ). window l 0 (tab (byte_of keys) (8 * n))) last ∙ filled_all (byte_of keys) l 256 e
+words_all keys l bytes n last e p = p ∙ ap (λ (m : ℕ). window l 0 (tab (byte_of keys) m)) last ∙ filled_all (byte_of keys) l 256 e

@@ -1,21 +1,18 @@
--- `count_held` meets its contract: before each turn the count is the number of held keys below the next.
-use Rattle.held_keys.proofs.Keys.{count_more, count_same}
-use Rattle.held_keys.specs.HeldKeys.{is_held, count_below}
-use native.Mathlib.Omega.{arith}
-use mathlib.Core.Path.{refl, sym, ◌∙◌}
+-- `count_held` meets its contract: as many bits of the channel's words are set as keys are held.
+use Rattle.std.proofs.Common.{◌≡◌, ◌<◌, ℕ, [], get_or, ap, ◌∙◌, arith}
+use borrow.Author.Tests.{lt-ltb}
+use Rattle.refusal.specs.Outcome.{gives}
+use Rattle.held_keys.specs.Record.{Shaped}
+use Rattle.held_keys.proofs.Shape.{array_shaped}
+use Rattle.held_keys.proofs.Counted.{channel_counted}
 use Rattle.held_keys.proofs.count_held.Goals as goal
-use Rattle.held_keys.proofs.count_held.Goals.{then-bit_set, else-bit_set}
 
-pub loop-key-init : goal.loop-key-init
-unfolding count_below
-loop-key-init c = (omega arith, omega arith, refl)
-
-pub loop-key-preserved : goal.loop-key-preserved
-unfolding is_held
-loop-key-preserved c = let a = c.args in
-    let l = c.loop-key in
-    let b = c.bit_set.ensures in
-    elim c.if-bit_set.branch [
-      | then-bit_set w ↦ (omega arith, omega arith, w.count-is ∙ count_more (is_held a.keys a.channel.0) l.key l.count (sym b ∙ w.if-bit_set.true) l.invariant.2)
-      | else-bit_set w ↦ (omega arith, omega arith, w.count-is ∙ count_same (is_held a.keys a.channel.0) l.key l.count (sym b ∙ w.if-bit_set.false) l.invariant.2)
-    ]
+pub returns-in-Some : goal.returns-in-Some
+returns-in-Some c =
+    let a = c.args in
+    let p : Shaped a.keys = array_shaped a.keys _ c.well_formed.0 in
+    let found = c.in-Some.ensures.lookup.3 in
+    let h : a.channel.0 < 16 = omega (arith, found.0, c.from.ensures, p.channels) in
+    let words : c.in-Some.field-0.now ≡ get_or a.keys a.channel.0 [] = found.1 [] ∙ ap (λ (i : ℕ). get_or a.keys i []) c.from.ensures in
+    rw (words, lt-ltb a.channel.0 16 h)
+    (ap (λ (n : ℕ). gives n) (channel_counted a.keys a.channel.0 (p.bits a.channel.0 0 h (omega arith)) (p.bits a.channel.0 1 h (omega arith))))

@@ -1,9 +1,10 @@
--- `dm_held_fresh` meets its contract: the length first, then the bytes of a record in which no key is held.
+-- `dm_held_fresh` meets its contract: the bytes of a record in which no key is held.
+use Rattle.std.proofs.Common.{ap, ◌∙◌}
+use Rattle.held_keys.specs.HeldBytes.{bytes_of_keys}
 use Rattle.host_held_keys.proofs.Applied.{fresh_written}
 use Rattle.host_held_keys.proofs.dm_held_fresh.Goals as goal
 
 pub returns : goal.returns
 returns c =
-    let new = c.new in
-    let p = c.put_keys in
-    fresh_written c.args.keys.now p.new.bytes new.result c.done.result c.if-keys-ne-HELD_LEN.false new.ensures p.ensures c.done.ensures
+    fresh_written c.args.keys.now c.put_keys.new.bytes c.done.result c.in-Some.ensures.cases.long (c.put_keys.ensures ∙ ap bytes_of_keys c.new.ensures)
+    c.done.ensures
