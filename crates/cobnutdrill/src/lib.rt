@@ -1,4 +1,5 @@
 // The static library that C links: each entry point of the crates host_NAME under its own symbol, with the promise of the call that it makes.
+// Each export says that promise again, since the C interface needs a symbol for each.
 #![tactic(auto)]
 
 mod c_command;

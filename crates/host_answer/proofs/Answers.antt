@@ -1,12 +1,12 @@
 -- An entry point answers what the call below it answered, in plain numbers.
+use Rattle.std.specs.Prelude.{Result}
 use mathlib.Core.Path.{◌≡◌, refl, ap, sym, ◌∙◌}
 use mathlib.Core.Bool.{Bool, true, false}
 use mathlib.Core.List.{List}
 use Prim.Native.Nat.{ℕ}
 use Rattle.laws.proofs.Tests.{true_is_not_false}
 use Rattle.refusal.specs.declared.Refusal.{Refusal}
-use Rattle.refusal.specs.declared.Count.{Count}
-use Rattle.refusal.specs.Outcome.{Outcome, gives, refusal, and_then, counted, Writes}
+use Rattle.refusal.specs.Outcome.{Outcome, gives, refusal, and_then, answered, Writes}
 use Rattle.host_answer.specs.declared.Answer.{Answer}
 use Rattle.host_answer.specs.Answer.{answer_of, no_record, Sends, SendsIf}
 
@@ -21,8 +21,8 @@ module _ {A : Type 0} (o : Outcome A) (inside : A → ℕ) where
   refusal_told e r h a = a ∙ ap (λ (p : Outcome A). answer_of (and_then p (λ y. gives (inside y)))) h
 
 -- a writer's entry point
-pub writer_told : (o : Outcome (List ℕ)) (c : Count) (r : Answer) (before afterwards : List ℕ) → Writes o c before afterwards
-    → r ≡ answer_of (counted c) → Sends o r before afterwards
+pub writer_told : (o : Outcome (List ℕ)) (c : Result ℕ Refusal) (r : Answer) (before afterwards : List ℕ) → Writes o c before afterwards
+    → r ≡ answer_of (answered c) → Sends o r before afterwards
 writer_told o c r before afterwards w a = record { answers = a ∙ ap answer_of w.answers; leaves = w.leaves }
 
 -- a writer's entry point whose flags name a record answers as the writer; one whose flags name none answers that

@@ -2,18 +2,18 @@
 #![tactic(auto)]
 
 ghost use Rattle.std.specs.Prelude.{◌≡◌};
-ghost use Rattle.refusal.specs.Outcome.{gives, counted, refusal};
+ghost use Rattle.refusal.specs.Outcome.{gives, and_then, answered, refusal};
 ghost use Rattle.host_answer.specs.Answer.{answer_of, no_record};
 ghost use Rattle.host_answer.specs.Device.{device_from, everyone_of, unit_of};
 
 use ids::DeviceId;
-use refusal::{Count, Refusal};
+use refusal::{OfByte, Refusal};
 
-// What every call answers. number: 0 where it is done, document 01's number where it is refused, and NO_RECORD where no record names
+// What every call answers, in numbers for C. number: 0 where it is done, document 01's number where it is refused, and NO_RECORD where no record names
 // what was asked. value: the number or count that was asked for, 0 unless it is done. details: those of the refusal, in the
 // table's order, 0 behind the last.
 #[repr(C)]
-#[derive(Drop)]
+#[derive(Clone, Copy, Debug, PartialEq, Eq)]
 pub struct Answer {
     pub number: u64,
     pub value: u64,
@@ -40,79 +40,52 @@ pub fn done(value: u64) -> Answer
     }
 }
 
-// A number that is not 0, with its details.
-pub fn told(number: u64, detail0: u64, detail1: u64, detail2: u64, detail3: u64) -> Answer
-    ensures { result ≡ (record { number = number; value = 0; detail0 = detail0; detail1 = detail1; detail2 = detail2; detail3 = detail3 }) }
-{
-    Answer {
-        number,
-        value: 0,
-        detail0,
-        detail1,
-        detail2,
-        detail3,
-    }
-}
-
 // No record names what was asked.
 pub fn no_record() -> Answer
     ensures { result ≡ no_record }
 {
-    told(NO_RECORD, 0, 0, 0, 0)
+    Answer {
+        number: NO_RECORD,
+        ..done(0)
+    }
 }
 
 // A refusal, with its details.
-pub fn refused(e: Refusal) -> Answer
-    ensures { result ≡ answer_of (refusal e) }
-{
-    match e {
-        Refusal::Unframed => told(1, 0, 0, 0, 0),
-        Refusal::NotSevenBit(byte) => told(2, byte as u64, 0, 0, 0),
-        Refusal::ShortFrame(length) => told(3, length as u64, 0, 0, 0),
-        Refusal::Foreign {
-            maker0,
-            maker1,
-            maker2,
-            model,
-        } => told(4, maker0 as u64, maker1 as u64, maker2 as u64, model as u64),
-        Refusal::InvalidDeviceId(byte) => told(5, byte as u64, 0, 0, 0),
-        Refusal::UnknownCommand(byte) => told(6, byte as u64, 0, 0, 0),
-        Refusal::PayloadLength {
-            command,
-            expected,
-            found,
-        } => told(7, command as u64, expected as u64, found as u64, 0),
-        Refusal::UnsupportedProtocolVersion(byte) => told(8, byte as u64, 0, 0, 0),
-        Refusal::BankOutOfRange(byte) => told(9, byte as u64, 0, 0, 0),
-        Refusal::ProgramOutOfRange(byte) => told(10, byte as u64, 0, 0, 0),
-        Refusal::PatternOutOfRange(byte) => told(11, byte as u64, 0, 0, 0),
-        Refusal::InvalidInterface(byte) => told(12, byte as u64, 0, 0, 0),
-        Refusal::PackedRunLength(length) => told(13, length as u64, 0, 0, 0),
-        Refusal::BufferTooSmall { needed, available } => told(
-            14,
-            needed as u64,
-            available as u64,
-            0,
-            0,
-        ),
-        Refusal::NotAnInquiryRequest => told(15, 0, 0, 0, 0),
-        Refusal::NotAnInquiryResponse => told(16, 0, 0, 0, 0),
-        Refusal::ChannelOutOfRange(byte) => told(17, byte as u64, 0, 0, 0),
-        Refusal::SysExInterrupted => told(18, 0, 0, 0, 0),
-        Refusal::SysExTooLong(limit) => told(19, limit as u64, 0, 0, 0),
-        Refusal::BadStore => told(20, 0, 0, 0, 0),
-        Refusal::ValueTooLarge(value) => told(21, value as u64, 0, 0, 0),
-        Refusal::LengthOverflow => told(22, 0, 0, 0, 0),
+impl From<Refusal> for Answer {
+    ghost from_gives = { λ e answer. answer ≡ answer_of (refusal e) };
+
+    fn from(e: Refusal) -> Answer {
+        let [first, second, third, fourth] = e.details();
+        Answer {
+            number: u64::from(e.number()),
+            value: 0,
+            detail0: first.unwrap_or(0),
+            detail1: second.unwrap_or(0),
+            detail2: third.unwrap_or(0),
+            detail3: fourth.unwrap_or(0),
+        }
     }
 }
 
 // A count, or a refusal.
-pub fn count(c: Count) -> Answer
-    ensures { result ≡ answer_of (counted c) }
+impl From<Result<usize, Refusal>> for Answer {
+    ghost from_gives = { λ counted answer. answer ≡ answer_of (answered counted) };
+
+    fn from(counted: Result<usize, Refusal>) -> Answer {
+        match counted {
+            Ok(n) => done(n as u64),
+            Err(e) => Answer::from(e),
+        }
+    }
+}
+
+// The number that a byte is read as, or the refusal.
+pub fn read_byte<T: OfByte>(byte: u8) -> Answer
+    ensures { result ≡ answer_of (and_then (T.of_byte byte) (λ x. gives (T.byte_of x))) }
 {
-    match c {
-        Count::Ok(n) => done(n as u64),
-        Count::Err(e) => refused(e),
+    match T::from_byte(byte) {
+        Ok(read) => done(u64::from(read.to_byte())),
+        Err(e) => Answer::from(e),
     }
 }
 
@@ -141,7 +114,7 @@ pub fn unit_of(device: DeviceId) -> u64
     ensures { result ≡ unit_of device }
 {
     match device {
-        DeviceId::Unit(unit) => unit as u64,
+        DeviceId::Unit(unit) => u64::from(unit),
         DeviceId::Broadcast => 0,
     }
 }

@@ -1,4 +1,3 @@
-pub mod Told
 pub mod Named
 pub mod Read
 pub mod ToldBytes

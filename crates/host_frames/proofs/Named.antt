@@ -6,7 +6,6 @@ use Prim.Native.Nat.{ℕ}
 use lib.Dec.{eqb}
 use lib.ListN.{length}
 use borrow.Author.Tests.{eqb-true}
-use Rattle.laws.specs.Choice.{pick}
 use Rattle.laws.proofs.Tests.{both}
 use Rattle.refusal.specs.Outcome.{Outcome, gives, refused, and_then}
 use Rattle.command.specs.declared.Command.{Command}
@@ -16,15 +15,7 @@ use Rattle.message.specs.declared.fields.Fields.{Fields}
 use Rattle.message.specs.Head.{head_from, command_of_head, fields_of}
 use Rattle.message.specs.Prefix.{prefix_of, field_list}
 use Rattle.frame_writer.specs.Writer.{length_for, head_length}
-use Rattle.host_answer.specs.declared.Answer.{Answer}
-use Rattle.host_answer.specs.Answer.{answer_of, no_record}
 use Rattle.host_frames.specs.Sent.{fields_from, length_asked}
-
-pub length_unnamed : (t : Bool) (o : Outcome ℕ) (a : Answer) → t ≡ false → a ≡ no_record → a ≡ pick t (answer_of o) no_record
-length_unnamed t o a h e = rw h e
-
-pub length_named : (t : Bool) (o : Outcome ℕ) (a : Answer) → t ≡ true → a ≡ answer_of o → a ≡ pick t (answer_of o) no_record
-length_named t o a h e = rw h e
 
 -- fields of which only a pattern's flag says something
 abbrev flag_alone : Bool → Fields

@@ -1,5 +1,6 @@
 -- Each number that dm_frame_read tells of a frame fits the byte that dm_frame_write takes for it: a field is 0 or a byte of the prefix, and these are
 -- below 80. So a C host may hand them over as they are.
+use Rattle.std.specs.Prelude.{None, Some}
 use mathlib.Core.Path.{◌≡◌, refl, ap, sym, subst}
 use mathlib.Core.Bool.{Bool, true, false}
 use mathlib.Core.List.{List, [], ◌∷◌, ◌++◌}
@@ -15,7 +16,6 @@ use Rattle.ids.specs.declared.device.DeviceId.TheVariants as d
 use Rattle.ids.specs.Device.{device_in_range}
 use Rattle.command.specs.Payload as y
 use Rattle.command.specs.Payload.{Field}
-use Rattle.framing.specs.declared.MaybeByte.TheVariants as m
 use Rattle.framing.specs.Framing.{first_high}
 use Rattle.message.specs.declared.fields.Fields.{Fields}
 use Rattle.message.specs.Prefix.{tag, value_of, second_of, field_list, fields_at}
@@ -30,12 +30,12 @@ use Rattle.host_frames.specs.declared.ReadAnswer.{ReadAnswer}
 use Rattle.host_frames.specs.Frames.{read_answer, ToldBytes}
 
 -- no high byte: each is below 80, and 0 is behind the end
-low_at : (l k : List ℕ) → first_high (l ++ k) ≡ m.None → (i : ℕ) → get_or l i 0 < 0x80
+low_at : (l k : List ℕ) → first_high (l ++ k) ≡ None → (i : ℕ) → get_or l i 0 < 0x80
 low_at [] k h i = omega arith
 low_at (b ∷ l) k h i = go (ltb b 0x80) refl i h (λ g j. low_at l k g j)
   where
-    go : (t : Bool) → ltb b 0x80 ≡ t → (i : ℕ) → pick t (first_high (l ++ k)) (m.Some b) ≡ m.None
-        → (first_high (l ++ k) ≡ m.None → (j : ℕ) → get_or l j 0 < 0x80) → get_or (b ∷ l) i 0 < 0x80
+    go : (t : Bool) → ltb b 0x80 ≡ t → (i : ℕ) → pick t (first_high (l ++ k)) (Some b) ≡ None
+        → (first_high (l ++ k) ≡ None → (j : ℕ) → get_or l j 0 < 0x80) → get_or (b ∷ l) i 0 < 0x80
     go true e zero g rest = ltb-true b 0x80 e
     go true e (suc j) g rest = rest g j
     go false e j g rest = let z : ◌≡◌ {A = ℕ} 0 1 = cc in absurd (omega arith)

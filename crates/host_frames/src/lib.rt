@@ -6,19 +6,22 @@ ghost use Rattle.host_answer.specs.Answer.{answer_of, no_record};
 ghost use Rattle.host_frames.specs.Frames.{frame_numbers, read_answer};
 ghost use Rattle.host_frames.specs.Sent.{fields_from, length_asked, pattern_flag_fits, FrameSent};
 ghost use Rattle.laws.specs.Choice.{pick};
-ghost use Rattle.refusal.specs.Outcome.{refusal};
+ghost use Rattle.refusal.specs.Outcome.{answered, and_then, refusal};
+ghost use Rattle.command.specs.Command.{command_of};
+ghost use Rattle.message.specs.Head.{head_from};
+ghost use Rattle.frame_writer.specs.Writer.{head_length};
 ghost use Rattle.std.specs.Prelude.{[], ◌≡◌};
 
-use command::{Command, CommandAnswer};
-use frame_reader::{Located, LocatedAnswer};
+use command::Command;
+use frame_reader::{Located, Record};
 use host_answer::Answer;
 use message::{Fields, Head};
-use refusal::Refusal;
+use refusal::{OfByte, Refusal};
 
-// What a frame says. number: 0 where it is read, else document 01's number with its details, and 0 behind them. everyone: 1 for device byte 7F, and
+// What a frame says, in numbers for C. number: 0 where it is read, else document 01's number with its details, and 0 behind them. everyone: 1 for device byte 7F, and
 // then unit is 0. What the command lacks is 0. run_start, run_len: where the packed run lies in the caller's bytes; both 0 where the command has none.
 #[repr(C)]
-#[derive(Drop)]
+#[derive(Clone, Copy, Debug, PartialEq, Eq)]
 pub struct ReadAnswer {
     pub number: u64,
     pub detail0: u64,
@@ -46,11 +49,12 @@ pub struct ReadAnswer {
 fn numbers(read: Located) -> ReadAnswer
     ensures { result ≡ frame_numbers read.frame.device read.frame.command read.frame.fields read.run.start read.run.len }
 {
-    let frame = read.frame;
-    let run = read.run;
-    let device = frame.device;
-    let command = frame.command;
-    let fields = frame.fields;
+    let Located { frame, run } = read;
+    let Record {
+        device,
+        command,
+        fields,
+    } = frame;
     ReadAnswer {
         number: 0,
         detail0: 0,
@@ -59,17 +63,17 @@ fn numbers(read: Located) -> ReadAnswer
         detail3: 0,
         everyone: host_answer::everyone_of(device),
         unit: host_answer::unit_of(device),
-        command: command.to_byte() as u64,
-        free: fields.free as u64,
-        version: fields.version as u64,
-        bank: fields.bank as u64,
-        program: fields.program as u64,
-        last: fields.last as u64,
-        pattern: fields.pattern as u64,
-        has_pattern: octets::flag_of(fields.has_pattern) as u64,
-        interface: fields.interface as u64,
-        rx: fields.rx as u64,
-        tx: fields.tx as u64,
+        command: u64::from(command.to_byte()),
+        free: u64::from(fields.free),
+        version: u64::from(fields.version),
+        bank: u64::from(fields.bank),
+        program: u64::from(fields.program),
+        last: u64::from(fields.last),
+        pattern: u64::from(fields.pattern),
+        has_pattern: u64::from(fields.has_pattern),
+        interface: u64::from(fields.interface),
+        rx: u64::from(fields.rx),
+        tx: u64::from(fields.tx),
         run_start: run.start as u64,
         run_len: run.len as u64,
     }
@@ -79,7 +83,7 @@ fn numbers(read: Located) -> ReadAnswer
 fn not_read(e: Refusal) -> ReadAnswer
     ensures { result ≡ read_answer (refusal e) [] }
 {
-    let why = host_answer::refused(e);
+    let why = Answer::from(e);
     ReadAnswer {
         number: why.number,
         detail0: why.detail0,
@@ -109,8 +113,8 @@ pub fn dm_frame_read(bytes: &[u8]) -> ReadAnswer
     ensures { result ≡ read_answer (read_record bytes.now) bytes.now }
 {
     match frame_reader::read_located(bytes) {
-        LocatedAnswer::Err(e) => not_read(e),
-        LocatedAnswer::Ok(read) => numbers(read),
+        Err(e) => not_read(e),
+        Ok(read) => numbers(read),
     }
 }
 
@@ -118,10 +122,15 @@ pub fn dm_frame_read(bytes: &[u8]) -> ReadAnswer
 fn pattern_flag_fits(command: u8, has_pattern: u8) -> bool
     ensures { result ≡ pattern_flag_fits command has_pattern }
 {
-    if has_pattern <= 1 {
-        return true;
-    }
-    command != 0x08
+    has_pattern <= 1 || command != 0x08
+}
+
+// The length of a message of this command. Refuses 6, 22.
+fn frame_len(command: u8, fields: Fields, run_len: usize) -> Result<usize, Refusal>
+    ensures { answered result ≡ and_then (command_of command) (λ k. head_length (head_from k fields) run_len) }
+{
+    let known = Command::from_byte(command)?;
+    frame_writer::encoded_len(Head::from_tested(known, fields), run_len)
 }
 
 // How many bytes a message of this command takes beside a run of so many; has_pattern says whether a pattern dump names its pattern, and is looked
@@ -132,24 +141,11 @@ pub fn dm_frame_len(command: u8, has_pattern: u8, run_len: usize) -> Answer
     if !pattern_flag_fits(command, has_pattern) {
         return host_answer::no_record();
     }
-    match Command::from_byte(command) {
-        CommandAnswer::Err(e) => host_answer::refused(e),
-        CommandAnswer::Ok(known) => {
-            let blank = Fields {
-                free: 0,
-                version: 0,
-                bank: 0,
-                program: 0,
-                last: 0,
-                pattern: 0,
-                has_pattern: has_pattern == 1,
-                interface: 0,
-                rx: 0,
-                tx: 0,
-            };
-            host_answer::count(frame_writer::encoded_len(Head::from_tested(known, blank), run_len))
-        }
-    }
+    let fields = Fields {
+        has_pattern: has_pattern == 1,
+        ..Fields::BLANK
+    };
+    Answer::from(frame_len(command, fields, run_len))
 }
 
 // Writes a frame. NO_RECORD, ahead of every refusal, for everyone above 1 and for command 08 with has_pattern above 1, which no other command
@@ -192,5 +188,5 @@ pub fn dm_frame_write(
         rx,
         tx,
     };
-    host_answer::count(frame_writer::write_record(device, command, fields, run, out))
+    Answer::from(frame_writer::write_record(device, command, fields, run, out))
 }

@@ -8,13 +8,12 @@ ghost use Rattle.inquiry.specs.Reply.{read_reply, reply_write};
 ghost use Rattle.host_inquiry.specs.Identity.{request_answer, reply_answer, identity_from, RequestSent};
 
 use host_answer::Answer;
-use ids::DeviceAnswer;
-use inquiry::{Identity, IdentityAnswer, Version};
+use inquiry::{Identity, Version};
 
-// What a request tells. number: 0 where it is read, else document 01's number with its detail, and 0 behind them. everyone: 1 where it asks every
+// What a request tells, in numbers for C. number: 0 where it is read, else document 01's number with its detail, and 0 behind them. everyone: 1 where it asks every
 // unit, and then unit is 0.
 #[repr(C)]
-#[derive(Drop)]
+#[derive(Clone, Copy, Debug, PartialEq, Eq)]
 pub struct RequestAnswer {
     pub number: u64,
     pub detail0: u64,
@@ -24,7 +23,7 @@ pub struct RequestAnswer {
 
 // What a reply tells: the device as above, the firmware's version and the two voice bytes.
 #[repr(C)]
-#[derive(Drop)]
+#[derive(Clone, Copy, Debug, PartialEq, Eq)]
 pub struct ReplyAnswer {
     pub number: u64,
     pub detail0: u64,
@@ -41,14 +40,14 @@ pub fn dm_request_read(bytes: &[u8]) -> RequestAnswer
     ensures { result ≡ request_answer (read_request bytes.now) }
 {
     match inquiry::request::parse_request(bytes) {
-        DeviceAnswer::Ok(asked) => RequestAnswer {
+        Ok(asked) => RequestAnswer {
             number: 0,
             detail0: 0,
             everyone: host_answer::everyone_of(asked),
             unit: host_answer::unit_of(asked),
         },
-        DeviceAnswer::Err(e) => {
-            let why = host_answer::refused(e);
+        Err(e) => {
+            let why = Answer::from(e);
             RequestAnswer {
                 number: why.number,
                 detail0: why.detail0,
@@ -64,21 +63,21 @@ pub fn dm_reply_read(bytes: &[u8]) -> ReplyAnswer
     ensures { result ≡ reply_answer (read_reply bytes.now) }
 {
     match inquiry::reply::parse_reply(bytes) {
-        IdentityAnswer::Ok(identity) => {
+        Ok(identity) => {
             let device = identity.device;
             ReplyAnswer {
                 number: 0,
                 detail0: 0,
                 everyone: host_answer::everyone_of(device),
                 unit: host_answer::unit_of(device),
-                major: identity.firmware.major as u64,
-                minor: identity.firmware.minor as u64,
-                voice_major: identity.voice.major as u64,
-                voice_minor: identity.voice.minor as u64,
+                major: u64::from(identity.firmware.major),
+                minor: u64::from(identity.firmware.minor),
+                voice_major: u64::from(identity.voice.major),
+                voice_minor: u64::from(identity.voice.minor),
             }
         }
-        IdentityAnswer::Err(e) => {
-            let why = host_answer::refused(e);
+        Err(e) => {
+            let why = Answer::from(e);
             ReplyAnswer {
                 number: why.number,
                 detail0: why.detail0,
@@ -100,7 +99,7 @@ pub fn dm_request_write(everyone: u8, unit: u8, out: &mut [u8]) -> Answer
     if 1 < everyone {
         return host_answer::no_record();
     }
-    host_answer::count(inquiry::request::request_into(host_answer::device_of(everyone, unit), out))
+    Answer::from(inquiry::request::request_into(host_answer::device_of(everyone, unit), out))
 }
 
 // Writes a reply. NO_RECORD for everyone above 1; then refuses 5, 14.
@@ -126,5 +125,5 @@ pub fn dm_reply_write(
             minor: voice_minor,
         },
     };
-    host_answer::count(inquiry::reply::reply_into(identity, out))
+    Answer::from(inquiry::reply::reply_into(identity, out))
 }

@@ -11,26 +11,26 @@ use host_answer::Answer;
 pub fn dm_packed_len(n: usize) -> Answer
     ensures { result ≡ answer_of (packed_length_of n) }
 {
-    host_answer::count(packed::packed_len(n))
+    Answer::from(packed::packed_len(n))
 }
 
 // How many raw bytes a run of so many bytes holds. Refuses 13.
 pub fn dm_unpacked_len(n: usize) -> Answer
     ensures { result ≡ answer_of (unpacked_length_of n) }
 {
-    host_answer::count(packed::unpacked_len(n))
+    Answer::from(packed::unpacked_len(n))
 }
 
 // Packs raw into out, the last group filled with 00. Refuses 22, 14.
 pub fn dm_pack(raw: &[u8], out: &mut [u8]) -> Answer
     ensures { Sends (pack_write raw.now (length out.old)) result out.old out.new }
 {
-    host_answer::count(packed::packing::pack_into(raw, out))
+    Answer::from(packed::packing::pack_into(raw, out))
 }
 
 // Unpacks run into out; top bits of its data bytes are not looked at. Refuses 13, 14.
 pub fn dm_unpack(run: &[u8], out: &mut [u8]) -> Answer
     ensures { Sends (unpack_write run.now (length out.old)) result out.old out.new }
 {
-    host_answer::count(packed::unpacking::unpack_into(run, out))
+    Answer::from(packed::unpacking::unpack_into(run, out))
 }

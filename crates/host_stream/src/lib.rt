@@ -22,6 +22,7 @@ pub fn dm_feed(state: &mut [u8], store: &mut [u8], bytes: &[u8]) -> FedAnswer
 }
 
 // The frame limit.
+#[tactic(auto, unfolding(decoder::specs::State::limit))]
 pub fn dm_capacity() -> u64
     ensures { result ≡ limit }
 {
@@ -33,7 +34,7 @@ pub fn dm_fresh(state: &mut [u8]) -> Answer
     ensures { Sends (state_write fresh state.old) result state.old state.new }
 {
     if state.len() != STATE_LEN {
-        return host_answer::refused(Refusal::BadStore);
+        return Answer::from(Refusal::BadStore);
     }
     state::put_state(Decoder::new(), state);
     host_answer::done(STATE_LEN as u64)
@@ -44,10 +45,9 @@ pub fn dm_reset(state: &mut [u8]) -> Answer
     ensures { Sends (reset_write state.old) result state.old state.new }
 {
     if state.len() != STATE_LEN {
-        return host_answer::refused(Refusal::BadStore);
+        return Answer::from(Refusal::BadStore);
     }
-    let d = state::state_of(state);
-    state::put_state(d.reset(), state);
+    state::put_state(state::state_of(state).reset(), state);
     host_answer::done(STATE_LEN as u64)
 }
 
@@ -56,8 +56,7 @@ pub fn dm_in_sysex(state: &[u8]) -> Answer
     ensures { result ≡ answer_of (open_of state.now) }
 {
     if !state::is_state(state) {
-        return host_answer::refused(Refusal::BadStore);
+        return Answer::from(Refusal::BadStore);
     }
-    let d = state::state_of(state);
-    host_answer::done(octets::flag_of(d.in_sysex()) as u64)
+    host_answer::done(u64::from(state::state_of(state).in_sysex()))
 }
