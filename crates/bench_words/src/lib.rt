@@ -1,87 +1,45 @@
 // The bench's words over the proved crates: a request's text in, the answer's text out.
 #![tactic(auto)]
 
-pub mod line;
-pub mod said;
-pub mod small;
-pub mod streams;
-pub mod sysex;
-pub mod wires;
+mod arguments;
+mod said;
+mod streams;
+mod sysex;
+mod wires;
+mod word;
 
-// How many words are answered here; it also stands for any other word.
-pub const WORDS: usize = 25;
+use arguments::Arguments;
+use said::{Failure, No};
+use std::alloc::{AllocError, Global};
+pub use word::Word;
 
-// The name of a word by its number.
-pub fn put_word(out: &mut [u8], number: usize) -> usize {
-    let words =
-        b"bank|program|pattern|version|device|channel|interface|command|rawlen|datalen|rt|plen|ulen|pack|unpack|chan|feed|chunks|frame|fwrite|readback|ireq|irep|wreq|wrep|other";
-    text::put_name(out, 0, words, number)
+// A request: its word, and what the word is asked.
+#[derive(Clone, Copy)]
+pub struct Request<'a> {
+    pub word: Word,
+    arguments: Arguments<'a>,
 }
 
-// Is it the word of a number?
-fn is_word(word: &[u8], number: usize) -> bool {
-    let mut name = [0u8; 16];
-    let len = put_word(&mut name, number);
-    framing::same_bytes(word, text::front(&name, len))
-}
-
-// The first word of a line, which a space ends.
-fn first_word(ask: &[u8]) -> &[u8] {
-    let behind = line::behind(ask, 0);
-    if behind == 0 {
-        return ask;
-    }
-    text::front(ask, behind - 1)
-}
-
-// The number of a request's word, or WORDS.
-pub fn word_of(ask: &[u8]) -> usize {
-    let word = first_word(ask);
-    for number in 0..WORDS {
-        if is_word(word, number) {
-            return number;
+impl<'a> Request<'a> {
+    // Takes a request's text apart at its first space. Where there is none, the last byte is taken for it.
+    pub fn of(text: &'a [u8]) -> Request<'a> {
+        let end = text.len().saturating_sub(1);
+        let (name, rest) = text::split_once(text, b' ').unwrap_or((
+            text::front(text, end),
+            Default::default(),
+        ));
+        Request {
+            word: Word::of(name),
+            arguments: Arguments(rest),
         }
     }
-    WORDS
-}
 
-// The words of runs, messages and streams.
-fn stream_answer(word: usize, ask: &[u8], at: usize, out: &mut [u8]) -> usize {
-    match word {
-        11 => wires::plen(ask, at, out),
-        12 => wires::ulen(ask, at, out),
-        13 => wires::pack(ask, at, out),
-        14 => wires::unpack(ask, at, out),
-        15 => wires::chan(ask, at, out),
-        16 => streams::feed(ask, at, out),
-        _ => streams::chunks(ask, at, out),
+    // The answer's text; none to another word than the bench's.
+    pub fn answer(self, alloc: Global) -> Result<String, AllocError> {
+        match self.word.answer(alloc, self.arguments) {
+            Ok(answer) => Ok(answer),
+            Err(Failure::Refused(refusal)) => format!(in alloc; "{}", No(refusal)),
+            Err(Failure::OutOfMemory(e)) => Err(e),
+        }
     }
-}
-
-// The words of frames and identity.
-fn frame_answer(word: usize, ask: &[u8], at: usize, out: &mut [u8]) -> usize {
-    match word {
-        18 => sysex::frame(ask, at, out),
-        19 => sysex::fwrite(ask, at, out),
-        20 => sysex::readback(ask, at, out),
-        21 => wires::ireq(ask, at, out),
-        22 => wires::irep(ask, at, out),
-        23 => wires::wreq(ask, at, out),
-        _ => wires::wrep(ask, at, out),
-    }
-}
-
-// Puts the answer to a request to the front of a buffer, and answers how long it is.
-pub fn answer(word: usize, ask: &[u8], out: &mut [u8]) -> usize {
-    let at = line::behind(ask, 0);
-    if word < 11 {
-        return small::answer(word, line::byte(ask, at), out);
-    }
-    if word < 18 {
-        return stream_answer(word, ask, at, out);
-    }
-    if word < WORDS {
-        return frame_answer(word, ask, at, out);
-    }
-    0
 }

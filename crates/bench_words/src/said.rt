@@ -1,46 +1,77 @@
 // Answers as the bench writes them.
-use refusal::{Count, Refusal};
-use text::refusals::{details, then_number};
+use refusal::Refusal;
+use std::alloc::{AllocError, Global};
+use std::fmt;
+use text::Hex;
+use text::refusals::Details;
 
-// `ok` and a number.
-pub fn ok_number(out: &mut [u8], n: u64) -> usize {
-    let at = text::put_all(out, 0, b"ok");
-    then_number(out, at, n)
+// Why a word has no `ok`: its arguments were refused, or memory ran out.
+#[derive(Drop)]
+pub enum Failure {
+    Refused(Refusal),
+    OutOfMemory(AllocError),
 }
 
-pub fn ok_byte(out: &mut [u8], byte: u8) -> usize {
-    ok_number(out, byte as u64)
+impl From<Refusal> for Failure {
+    fn from(refusal: Refusal) -> Failure {
+        Failure::Refused(refusal)
+    }
 }
 
-pub fn ok_length(out: &mut [u8], length: usize) -> usize {
-    ok_number(out, length as u64)
+impl From<AllocError> for Failure {
+    fn from(error: AllocError) -> Failure {
+        Failure::OutOfMemory(error)
+    }
 }
 
-// `no`, the number and the details.
-pub fn refused(out: &mut [u8], refusal: Refusal) -> usize {
-    let a = text::put_all(out, 0, b"no");
-    let b = then_number(out, a, refusal.number() as u64);
-    details(out, b, refusal)
+// `ok` and what was asked for.
+pub fn ok<T: fmt::Display + Drop>(alloc: Global, value: T) -> Result<String, Failure> {
+    Ok(format!(in alloc; "ok {value}")?)
 }
 
-pub fn counted(out: &mut [u8], count: Count) -> usize {
-    match count {
-        Count::Ok(n) => ok_length(out, n),
-        Count::Err(e) => refused(out, e),
+pub fn ok_or_none<T: fmt::Display + Drop>(
+    alloc: Global,
+    value: Option<T>,
+) -> Result<String, Failure> {
+    match value {
+        Some(value) => ok(alloc, value),
+        None => ok(alloc, "none"),
+    }
+}
+
+// `no`, the refusal's number and its details.
+#[derive(Clone, Copy)]
+pub struct No(pub Refusal);
+
+impl fmt::Display for No {
+    fn fmt<W: fmt::Write>(&self, f: &mut fmt::Formatter<W>) -> fmt::Result {
+        write!(f, "no {}{}", self.0.number(), Details(self.0))
     }
 }
 
 // Bytes in hexadecimal, `-` for none.
-pub fn hex(out: &mut [u8], at: usize, bytes: &[u8]) -> usize {
-    if bytes.len() == 0 {
-        return text::put(out, at, 45);
+#[derive(Clone, Copy)]
+pub struct Listed<'a>(pub &'a [u8]);
+
+impl fmt::Display for Listed<'_> {
+    fn fmt<W: fmt::Write>(&self, f: &mut fmt::Formatter<W>) -> fmt::Result {
+        if self.0.is_empty() {
+            return f.write_str("-");
+        }
+        let hex = Hex {
+            bytes: self.0,
+            behind: "",
+        };
+        write!(f, "{hex}")
     }
-    text::put_hex_all(out, at, bytes)
 }
 
 // What a writer answered, and the whole buffer that it was lent.
-pub fn wrote(out: &mut [u8], count: Count, lent: &[u8]) -> usize {
-    let a = counted(out, count);
-    let b = text::put_all(out, a, b" | ");
-    hex(out, b, lent)
+pub fn wrote(alloc: Global, count: Result<usize, Refusal>, lent: &[u8]) -> Result<String, Failure> {
+    let lent = Listed(lent);
+    let said = match count {
+        Ok(n) => format!(in alloc; "ok {n} | {lent}")?,
+        Err(e) => format!(in alloc; "{} | {lent}", No(e))?,
+    };
+    Ok(said)
 }

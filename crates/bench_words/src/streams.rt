@@ -1,250 +1,171 @@
 // The words of the decoder, from a fresh one each time.
-use crate::line;
-use decoder::{Decoder, Fed, FeedAnswer, MaybeReport, Report};
+use crate::arguments::Arguments;
+use crate::said::Failure;
+use decoder::{Decoder, Fed, MAX_SYSEX_LEN, Report};
+use refusal::OfByte;
+use std::alloc::{AllocError, Global};
+use std::fmt;
+use text::Hex;
 use wire::{Channel, ChannelMessage, SystemCommon};
 
-// How far a stream has come: the decoder's state, the end of the text so far, and the place of the next byte.
+// A report as the bench writes it. A frame is the front of the store.
 #[derive(Clone, Copy)]
-struct Told {
+struct Told<'a> {
+    store: &'a [u8],
+    report: Report,
+}
+
+impl fmt::Display for Told<'_> {
+    fn fmt<W: fmt::Write>(&self, f: &mut fmt::Formatter<W>) -> fmt::Result {
+        match self.report {
+            Report::Channel { channel, message } => tell_channel(f, channel, message),
+            Report::SysEx(len) => {
+                let frame = Hex {
+                    bytes: text::front(self.store, len),
+                    behind: "",
+                };
+                write!(f, "x{frame}")
+            }
+            Report::Common(SystemCommon::TimeCodeQuarterFrame(value)) => write!(f, "mf1,{value}"),
+            Report::Common(SystemCommon::SongPosition(value)) => write!(f, "mf2,{value}"),
+            Report::Common(SystemCommon::SongSelect(value)) => write!(f, "mf3,{value}"),
+            Report::Common(SystemCommon::TuneRequest) => f.write_str("mf6"),
+            Report::Realtime(message) => write!(f, "r{:02x}", message.to_status()),
+            Report::SysExInterrupted => f.write_str("e18"),
+            Report::SysExTooLong(limit) => write!(f, "e19,{limit}"),
+        }
+    }
+}
+
+fn tell_channel<W: fmt::Write>(
+    f: &mut fmt::Formatter<W>,
+    channel: Channel,
+    message: ChannelMessage,
+) -> fmt::Result {
+    let status = message.status_nibble() | channel.to_byte();
+    write!(f, "c{status:02x}")?;
+    match message {
+        ChannelMessage::NoteOff {
+            key: first,
+            velocity: second,
+        }
+        | ChannelMessage::NoteOn {
+            key: first,
+            velocity: second,
+        }
+        | ChannelMessage::PolyKeyPressure {
+            key: first,
+            pressure: second,
+        }
+        | ChannelMessage::ControlChange {
+            controller: first,
+            value: second,
+        } => write!(f, ",{first},{second}"),
+        ChannelMessage::ProgramChange { program: only }
+        | ChannelMessage::ChannelPressure { pressure: only } => write!(f, ",{only}"),
+        ChannelMessage::PitchBend { value } => write!(f, ",{value}"),
+    }
+}
+
+// How far a stream has come: the decoder and its store, the place of the next byte where places are asked for, and the answer so far.
+#[derive(Drop)]
+struct Stream {
     state: Decoder,
-    at: usize,
-    place: usize,
+    store: [u8; MAX_SYSEX_LEN],
+    place: Option<u64>,
+    answer: String,
 }
 
-fn comma(out: &mut [u8], at: usize, n: u64) -> usize {
-    let next = text::put(out, at, 44);
-    text::put_decimal(out, next, n)
-}
-
-fn one(out: &mut [u8], at: usize, byte: u8) -> usize {
-    comma(out, at, byte as u64)
-}
-
-fn two(out: &mut [u8], at: usize, first: u8, second: u8) -> usize {
-    let next = one(out, at, first);
-    one(out, next, second)
-}
-
-// The status byte, where the message's channel is below 16, as every reported one is.
-fn status_of(channel: Channel, message: ChannelMessage) -> u8 {
-    let nibble = message.status_nibble();
-    let index = channel.0;
-    if nibble <= 0xE0 {
-        if index < 16 {
-            return nibble + index;
-        }
+impl Stream {
+    fn new(alloc: Global, place: Option<u64>) -> Result<Stream, AllocError> {
+        Ok(Stream {
+            state: Decoder::new(),
+            store: [0xAA; MAX_SYSEX_LEN],
+            place,
+            answer: String::from_str(alloc, "ok")?,
+        })
     }
-    0
-}
 
-fn channel(out: &mut [u8], at: usize, channel: Channel, message: ChannelMessage) -> usize {
-    let a = text::put(out, at, 99);
-    let b = text::put_hex(out, a, status_of(channel, message));
-    match message {
-        ChannelMessage::NoteOff { key, velocity } => two(out, b, key, velocity),
-        ChannelMessage::NoteOn { key, velocity } => two(out, b, key, velocity),
-        ChannelMessage::PolyKeyPressure { key, pressure } => two(out, b, key, pressure),
-        ChannelMessage::ControlChange { controller, value } => two(out, b, controller, value),
-        ChannelMessage::ProgramChange { program } => one(out, b, program),
-        ChannelMessage::ChannelPressure { pressure } => one(out, b, pressure),
-        ChannelMessage::PitchBend { value } => comma(out, b, value as u64),
-    }
-}
-
-fn common(out: &mut [u8], at: usize, message: SystemCommon) -> usize {
-    match message {
-        SystemCommon::TimeCodeQuarterFrame(value) => {
-            let next = text::put_all(out, at, b"mf1");
-            one(out, next, value)
-        }
-        SystemCommon::SongPosition(value) => {
-            let next = text::put_all(out, at, b"mf2");
-            comma(out, next, value as u64)
-        }
-        SystemCommon::SongSelect(value) => {
-            let next = text::put_all(out, at, b"mf3");
-            one(out, next, value)
-        }
-        SystemCommon::TuneRequest => text::put_all(out, at, b"mf6"),
-    }
-}
-
-// The frame is the front of the store.
-fn frame(out: &mut [u8], at: usize, store: &[u8], len: usize) -> usize {
-    let next = text::put(out, at, 120);
-    text::put_hex_all(out, next, text::front(store, len))
-}
-
-fn report(out: &mut [u8], at: usize, store: &[u8], report: Report) -> usize {
-    match report {
-        Report::Channel {
-            channel: on,
-            message,
-        } => channel(out, at, on, message),
-        Report::SysEx(len) => frame(out, at, store, len),
-        Report::Common(message) => common(out, at, message),
-        Report::Realtime(message) => {
-            let next = text::put(out, at, 114);
-            text::put_hex(out, next, message.to_status())
-        }
-        Report::SysExInterrupted => text::put_all(out, at, b"e18"),
-        Report::SysExTooLong(limit) => {
-            let next = text::put_all(out, at, b"e19");
-            comma(out, next, limit as u64)
-        }
-    }
-}
-
-// A space, and the place where places are asked for.
-fn ahead(out: &mut [u8], at: usize, placed: bool, place: usize) -> usize {
-    let a = text::put(out, at, 32);
-    if !placed {
-        return a;
-    }
-    let b = text::put_decimal(out, a, place as u64);
-    text::put(out, b, 58)
-}
-
-fn interrupted(out: &mut [u8], at: usize, placed: bool, place: usize, fed: Fed) -> usize {
-    if fed.interrupted {
-        let next = ahead(out, at, placed, place);
-        return text::put_all(out, next, b"e18");
-    }
-    at
-}
-
-// The reports of one call, at the last byte that it used.
-fn reports(out: &mut [u8], at: usize, store: &[u8], placed: bool, place: usize, fed: Fed) -> usize {
-    let own = fed.report;
-    let next = interrupted(out, at, placed, place, fed);
-    match own {
-        MaybeReport::None => next,
-        MaybeReport::Some(it) => {
-            let here = ahead(out, next, placed, place);
-            report(out, here, store, it)
-        }
-    }
-}
-
-// One call on the bytes from the next place on. It stands still where the call is refused, uses no byte or more than it was given.
-fn call(told: Told, store: &mut [u8], bytes: &[u8], placed: bool, out: &mut [u8]) -> Told {
-    let state = told.state;
-    let place = told.place;
-    if bytes.len() < place {
-        return told;
-    }
-    match state.feed(store, &bytes[place..]) {
-        FeedAnswer::Err(_) => told,
-        FeedAnswer::Ok(fed) => {
-            let used = fed.used;
-            if used == 0 {
-                return told;
+    // Calls until all bytes are used, and then answers true; a call stands still that is refused, uses no byte or more than it was given.
+    fn take(&mut self, bytes: &[u8]) -> Result<bool, AllocError> {
+        let mut rest = bytes;
+        while !rest.is_empty() {
+            let Ok(fed) = self.state.feed(&mut self.store, rest) else {
+                return Ok(false);
+            };
+            let Some((used, next)) = rest.split_at_checked(fed.used) else {
+                return Ok(false);
+            };
+            if used.is_empty() {
+                return Ok(false);
             }
-            if bytes.len() - place < used {
-                return told;
-            }
-            let after = fed.state;
-            let last = place + (used - 1);
-            let next = place + used;
-            Told {
-                state: after,
-                at: reports(out, told.at, store, placed, last, fed),
-                place: next,
-            }
+            self.state = fed.state;
+            self.place = self
+                .place
+                .map(|place| place.wrapping_add(used.len() as u64));
+            self.tell_all(fed)?;
+            rest = next;
         }
+        Ok(true)
+    }
+
+    // The reports of one call.
+    fn tell_all(&mut self, fed: Fed) -> Result<(), AllocError> {
+        if fed.interrupted {
+            self.tell(Report::SysExInterrupted)?;
+        }
+        match fed.report {
+            Some(report) => self.tell(report),
+            None => Ok(()),
+        }
+    }
+
+    // A report, behind the place of the byte that gave it.
+    fn tell(&mut self, report: Report) -> Result<(), AllocError> {
+        let told = Told {
+            store: &self.store,
+            report,
+        };
+        match self.place {
+            Some(next) => write!(self.answer, " {}:{told}", next.wrapping_sub(1)),
+            None => write!(self.answer, " {told}"),
+        }
+    }
+
+    // The answer, with a mark that no recorded one has where bytes were left over.
+    fn answer(self, all_used: bool) -> Result<String, AllocError> {
+        let mut answer = self.answer;
+        if !all_used {
+            answer.push('!')?;
+        }
+        Ok(answer)
     }
 }
 
-// Calls until all bytes are used, or one stands still.
-fn part(told: Told, store: &mut [u8], bytes: &[u8], placed: bool, out: &mut [u8]) -> Told {
-    let mut now = told;
-    while now.place < bytes.len() {
-        let next = call(now, store, bytes, placed, out);
-        if next.place <= now.place {
+pub fn feed(alloc: Global, mut ask: Arguments<'_>) -> Result<String, Failure> {
+    let bytes = ask.bytes(alloc)?;
+    let mut stream = Stream::new(alloc, Some(0))?;
+    let all_used = stream.take(bytes.as_slice())?;
+    let open = u8::from(stream.state.in_sysex);
+    let mut answer = stream.answer(all_used)?;
+    write!(answer, " open={open}")?;
+    Ok(answer)
+}
+
+// The bytes in pieces of the sizes that are listed, from the first size again behind the last.
+pub fn chunks(alloc: Global, mut ask: Arguments<'_>) -> Result<String, Failure> {
+    let sizes = ask.numbers(alloc)?;
+    let bytes = ask.bytes(alloc)?;
+    let mut stream = Stream::new(alloc, None)?;
+    let mut all_used = true;
+    let mut rest = bytes.as_slice();
+    for size in sizes.iter().copied().cycle().take(65536) {
+        if rest.is_empty() {
             break;
         }
-        now = next;
+        let (piece, next) = rest.split_at(rest.len().min(size as usize));
+        all_used &= stream.take(piece)?;
+        rest = next;
     }
-    now
-}
-
-fn fresh(out: &mut [u8]) -> Told {
-    let state = Decoder::new();
-    Told {
-        state,
-        at: text::put_all(out, 0, b"ok"),
-        place: 0,
-    }
-}
-
-// A mark that no recorded answer has, where bytes were left over.
-fn ended(told: Told, bytes: &[u8], out: &mut [u8]) -> usize {
-    if told.place == bytes.len() {
-        return told.at;
-    }
-    text::put(out, told.at, 33)
-}
-
-fn whole(bytes: &[u8], store: &mut [u8], out: &mut [u8]) -> usize {
-    let begun = fresh(out);
-    let told = part(begun, store, bytes, true, out);
-    let at = ended(told, bytes, out);
-    if told.state.in_sysex {
-        return text::put_all(out, at, b" open=1");
-    }
-    text::put_all(out, at, b" open=0")
-}
-
-pub fn feed(ask: &[u8], at: usize, out: &mut [u8]) -> usize {
-    let mut bytes = io::buffer();
-    let mut store = [0xAAu8; 2354];
-    let n = line::bytes(ask, at, &mut bytes);
-    whole(&bytes[..n], &mut store, out)
-}
-
-// Where the next size stands: behind the comma, or at the first again.
-fn next_size(ask: &[u8], from: usize, first: usize) -> usize {
-    for i in from..ask.len() {
-        if ask[i] == 44 {
-            return i + 1;
-        }
-        if ask[i] == 32 {
-            return first;
-        }
-    }
-    first
-}
-
-// So many bytes further, or the end.
-fn further(end: usize, size: u64, len: usize) -> usize {
-    if len < end {
-        return len;
-    }
-    let left = len - end;
-    if size < left as u64 {
-        return end + size as usize;
-    }
-    len
-}
-
-fn pieces(ask: &[u8], sizes: usize, bytes: &[u8], store: &mut [u8], out: &mut [u8]) -> usize {
-    let mut told = fresh(out);
-    let mut size = sizes;
-    let mut end: usize = 0;
-    for _ in 0..65536 {
-        if end == bytes.len() {
-            break;
-        }
-        end = further(end, line::number(ask, size), bytes.len());
-        told = part(told, store, text::front(bytes, end), false, out);
-        size = next_size(ask, size, sizes);
-    }
-    ended(told, bytes, out)
-}
-
-pub fn chunks(ask: &[u8], at: usize, out: &mut [u8]) -> usize {
-    let mut bytes = io::buffer();
-    let mut store = [0xAAu8; 2354];
-    let n = line::bytes(ask, line::behind(ask, at), &mut bytes);
-    pieces(ask, at, &bytes[..n], &mut store, out)
+    Ok(stream.answer(all_used && rest.is_empty())?)
 }

@@ -1,96 +1,101 @@
-// Channel, system common and real-time messages, by the bytes that the engine's writers make of them.
-use crate::then;
-use octets::byte_at;
-use refusal::Count;
-use wire::{CommonStatus, SystemCommon};
+// Channel, system common and real-time messages.
+use decoder::Report;
+use refusal::Refusal;
+use std::fmt;
+use wire::{Channel, ChannelMessage, CommonStatus, Realtime, SystemCommon};
 
-// How many bytes a writer wrote.
-pub fn written(count: Count) -> usize {
-    match count {
-        Count::Ok(n) => n,
-        Count::Err(_) => 0,
-    }
+// Puts the bytes of a message of one to three to the front of a buffer, and answers how many; 0 for any other report.
+pub fn encode(report: Report, bytes: &mut [u8]) -> usize {
+    let written = match report {
+        Report::Channel { channel, message } => message.encode_into(channel, bytes),
+        Report::Common(message) => encode_common(message, bytes),
+        Report::Realtime(message) => message.encode_into(bytes),
+        Report::SysEx(_) | Report::SysExInterrupted | Report::SysExTooLong(_) => Ok(0),
+    };
+    written.unwrap_or(0)
 }
 
-// A system common message's bytes, to the front of a buffer.
-pub fn common_bytes(message: SystemCommon, bytes: &mut [u8]) -> usize {
-    match message {
-        SystemCommon::TimeCodeQuarterFrame(value) => written(
-            CommonStatus::TimeCodeQuarterFrame.encode_into(value as u16, bytes),
+fn encode_common(message: SystemCommon, bytes: &mut [u8]) -> Result<usize, Refusal> {
+    let (status, value) = match message {
+        SystemCommon::TimeCodeQuarterFrame(value) => (
+            CommonStatus::TimeCodeQuarterFrame,
+            u16::from(value),
         ),
-        SystemCommon::SongPosition(value) => written(CommonStatus::SongPosition.encode_into(
-            value, bytes,
-        )),
-        SystemCommon::SongSelect(value) => written(CommonStatus::SongSelect.encode_into(
-            value as u16,
-            bytes,
-        )),
-        SystemCommon::TuneRequest => written(CommonStatus::TuneRequest.encode_into(0, bytes)),
+        SystemCommon::SongPosition(value) => (CommonStatus::SongPosition, value),
+        SystemCommon::SongSelect(value) => (CommonStatus::SongSelect, u16::from(value)),
+        SystemCommon::TuneRequest => (CommonStatus::TuneRequest, 0),
+    };
+    status.encode_into(value, bytes)
+}
+
+// A channel message and its channel.
+#[derive(Clone, Copy)]
+pub struct OnChannel {
+    pub channel: Channel,
+    pub message: ChannelMessage,
+}
+
+impl fmt::Display for OnChannel {
+    fn fmt<W: fmt::Write>(&self, f: &mut fmt::Formatter<W>) -> fmt::Result {
+        let channel = self.channel.number();
+        match self.message {
+            ChannelMessage::NoteOff { key, velocity } => {
+                write!(
+                    f,
+                    "note off, channel {channel}, key {key}, velocity {velocity}"
+                )
+            }
+            ChannelMessage::NoteOn { key, velocity } => {
+                write!(
+                    f,
+                    "note on, channel {channel}, key {key}, velocity {velocity}"
+                )
+            }
+            ChannelMessage::PolyKeyPressure { key, pressure } => {
+                write!(
+                    f,
+                    "key pressure, channel {channel}, key {key}, pressure {pressure}"
+                )
+            }
+            ChannelMessage::ControlChange { controller, value } => write!(
+                f,
+                "control change, channel {channel}, controller {controller}, value {value}"
+            ),
+            ChannelMessage::ProgramChange { program } => {
+                write!(f, "program change, channel {channel}, program {program}")
+            }
+            ChannelMessage::ChannelPressure { pressure } => {
+                write!(
+                    f,
+                    "channel pressure, channel {channel}, pressure {pressure}"
+                )
+            }
+            ChannelMessage::PitchBend { value } => {
+                write!(f, "pitch bend, channel {channel}, value {value}")
+            }
+        }
     }
 }
 
-// Fourteen bits, low seven first.
-fn fourteen(low: u8, high: u8) -> u64 {
-    (low as u64) + 128 * (high as u64)
-}
-
-// A comma, the label of a number, and a number.
-fn labelled(out: &mut [u8], at: usize, labels: &[u8], number: usize, n: u64) -> usize {
-    let a = text::put_all(out, at, b", ");
-    let b = text::put_name(out, a, labels, number);
-    let d = text::put(out, b, 32);
-    text::put_decimal(out, d, n)
-}
-
-fn put_two(out: &mut [u8], at: usize, kind: usize, first: u8, second: u8) -> usize {
-    let firsts = b"key|key|key|controller";
-    let seconds = b"velocity|velocity|pressure|value";
-    let next = labelled(out, at, firsts, kind, first as u64);
-    labelled(out, next, seconds, kind, second as u64)
-}
-
-// The data of a channel message of a kind, 0 for note off to 6 for bend.
-fn put_data(out: &mut [u8], at: usize, kind: usize, bytes: &[u8]) -> usize {
-    let first = byte_at(bytes, 1);
-    let second = byte_at(bytes, 2);
-    if kind < 4 {
-        return put_two(out, at, kind, first, second);
+pub fn common_words<W: fmt::Write>(
+    f: &mut fmt::Formatter<W>,
+    message: SystemCommon,
+) -> fmt::Result {
+    match message {
+        SystemCommon::TimeCodeQuarterFrame(value) => write!(f, "time code quarter frame {value}"),
+        SystemCommon::SongPosition(value) => write!(f, "song position {value}"),
+        SystemCommon::SongSelect(value) => write!(f, "song select {value}"),
+        SystemCommon::TuneRequest => f.write_str("tune request"),
     }
-    if kind < 6 {
-        return labelled(out, at, b"program|pressure", kind - 4, first as u64);
-    }
-    then(out, at, b", value ", fourteen(first, second))
 }
 
-fn put_channel(out: &mut [u8], at: usize, status: u8, bytes: &[u8]) -> usize {
-    let names =
-        b"note off|note on|key pressure|control change|program change|channel pressure|pitch bend";
-    let kind = (status / 16 % 8) as usize;
-    let a = text::put_name(out, at, names, kind);
-    let b = then(out, a, b", channel ", (status % 16 + 1) as u64);
-    put_data(out, b, kind, bytes)
-}
-
-// A system common message by the low four bits of its status.
-fn put_common(out: &mut [u8], at: usize, kind: usize, bytes: &[u8]) -> usize {
-    let names = b"|time code quarter frame |song position |song select |||tune request";
-    let next = text::put_name(out, at, names, kind);
-    if bytes.len() < 2 {
-        return next;
+pub fn realtime_words(message: Realtime) -> &'static str {
+    match message {
+        Realtime::Clock => "clock",
+        Realtime::Start => "start",
+        Realtime::Continue => "continue",
+        Realtime::Stop => "stop",
+        Realtime::ActiveSensing => "active sensing",
+        Realtime::SystemReset => "system reset",
     }
-    text::put_decimal(out, next, fourteen(byte_at(bytes, 1), byte_at(bytes, 2)))
-}
-
-// What one to three bytes say.
-pub fn put_words(out: &mut [u8], at: usize, bytes: &[u8]) -> usize {
-    let status = byte_at(bytes, 0);
-    if status < 0xF0 {
-        return put_channel(out, at, status, bytes);
-    }
-    let kind = (status % 16) as usize;
-    if status < 0xF8 {
-        return put_common(out, at, kind, bytes);
-    }
-    let names = b"clock||start|continue|stop||active sensing|system reset";
-    text::put_name(out, at, names, kind % 8)
 }

@@ -3,10 +3,8 @@ use std::io;
 
 // The system's words, without the error's number that stands behind them.
 fn reason(said: &str) -> &str {
-    match said.split_once(" (os error ") {
-        Some((words, _)) => words,
-        None => said,
-    }
+    said.split_once(" (os error ")
+        .map_or(said, |(words, _)| words)
 }
 
 // What failed, as the caller names it, a colon and the system's words for why.

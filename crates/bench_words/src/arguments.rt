@@ -1,0 +1,86 @@
+// A request taken apart: words stand between single spaces, numbers are decimal, bytes are plain hexadecimal, `-` for none.
+use ids::DeviceId;
+use std::alloc::{AllocError, Global};
+
+// So many bytes are read of one word at most.
+pub const MOST_BYTES: usize = 4096;
+
+// What is left of a request. Each call reads a value at its front, up to where the value ends, and goes on behind the next space.
+#[derive(Clone, Copy)]
+pub struct Arguments<'a>(pub &'a [u8]);
+
+impl<'a> Arguments<'a> {
+    // What stands at the front, up to the end of the request.
+    fn front(&mut self) -> &'a [u8] {
+        let all = self.0;
+        self.0 = text::split_once(all, b' ').map_or(Default::default(), |(_, behind)| behind);
+        all
+    }
+
+    pub fn number(&mut self) -> u64 {
+        number_of(self.front())
+    }
+
+    pub fn byte(&mut self) -> u8 {
+        byte_of(self.front())
+    }
+
+    // `all`, or a unit such as `u0`.
+    pub fn device(&mut self) -> DeviceId {
+        match self.front() {
+            [] | [b'a', ..] => DeviceId::Broadcast,
+            [_, unit @ ..] => DeviceId::Unit(byte_of(unit)),
+        }
+    }
+
+    pub fn bytes(&mut self, alloc: Global) -> Result<Vec<u8>, AllocError> {
+        let (pairs, _) = self.front().as_chunks::<2>();
+        pairs
+            .iter()
+            .map_while(|pair| paired(*pair))
+            .take(MOST_BYTES)
+            .collect(alloc)
+    }
+
+    // Numbers with commas between them.
+    pub fn numbers(&mut self, alloc: Global) -> Result<Vec<u64>, AllocError> {
+        let all = self.front();
+        let word = text::split_once(all, b' ').map_or(all, |(word, _)| word);
+        word.split(|byte| *byte == b',')
+            .map(number_of)
+            .collect(alloc)
+    }
+}
+
+// The number at the front of a text.
+fn number_of(text: &[u8]) -> u64 {
+    text.iter()
+        .map_while(|byte| char::from(*byte).to_digit(10))
+        .fold(0, appended)
+}
+
+// One decimal digit more; no recorded number is longer than a u64.
+fn appended(n: u64, digit: u32) -> u64 {
+    match n.checked_mul(10) {
+        Some(tens) => tens.wrapping_add(u64::from(digit)),
+        None => n,
+    }
+}
+
+fn byte_of(text: &[u8]) -> u8 {
+    (number_of(text) % 256) as u8
+}
+
+// The byte of two hexadecimal digits: 0 where only the first is one, none where it is not.
+fn paired([high, low]: [u8; 2]) -> Option<u8> {
+    let high = hex_digit(high)?;
+    Some(hex_digit(low).map_or(0, |low| (high << 4) | low))
+}
+
+fn hex_digit(byte: u8) -> Option<u8> {
+    match byte {
+        b'0'..=b'9' => Some(byte - b'0'),
+        b'a'..=b'f' => Some(byte - b'a' + 10),
+        _ => None,
+    }
+}
