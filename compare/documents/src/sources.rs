@@ -45,7 +45,13 @@ fn declared_in_proofs(text: &str) -> BTreeSet<String> {
     all
 }
 
-/// The names that a source declares; those inside `impl` stand behind the type's.
+/// The type of a block that begins with `impl`, which may have parameters and a trait ahead of it.
+fn owner_of(head: &str) -> &str {
+    let head = head.strip_prefix('<').and_then(|rest| rest.split_once("> ")).map_or(head.trim_start(), |(_, behind)| behind);
+    name(head.split_once(" for ").map_or(head, |(_, behind)| behind)).0
+}
+
+/// The names that a source declares; those inside `impl` or `trait` stand behind the type's or the trait's.
 fn declared_in_code(text: &str) -> BTreeSet<String> {
     let mut all = BTreeSet::new();
     let mut owner = String::new();
@@ -53,17 +59,20 @@ fn declared_in_code(text: &str) -> BTreeSet<String> {
         if line.starts_with('}') {
             owner.clear();
         }
-        if let Some(behind) = line.strip_prefix("impl ") {
-            owner = name(behind).0.to_string() + "::";
+        if let Some(behind) = line.strip_prefix("impl").filter(|behind| behind.starts_with([' ', '<'])) {
+            owner = owner_of(behind).to_string() + "::";
         }
         let mut rest = line.trim_start();
         for word in ["pub ", "extern \"C\" "] {
             rest = rest.strip_prefix(word).unwrap_or(rest);
         }
-        for word in ["fn ", "struct ", "enum ", "const ", "type ", "mod "] {
+        for word in ["fn ", "struct ", "enum ", "trait ", "const ", "static ", "ghost ", "type ", "mod "] {
             if let Some(behind) = rest.strip_prefix(word) {
                 all.insert(owner.clone() + name(behind).0);
             }
+        }
+        if let Some(behind) = line.strip_prefix("pub trait ").or_else(|| line.strip_prefix("trait ")) {
+            owner = name(behind).0.to_string() + "::";
         }
     }
     all

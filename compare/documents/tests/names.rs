@@ -76,8 +76,8 @@ fn what_is_made_up_is_seen() {
     for (from, to) in [
         ("`condition_3_of_host`", "`condition_4_of_host`"),
         ("`unpacked_length_of`", "`unpacked_length_off`"),
-        ("`Bank::new`", "`Bank::made`"),
-        ("`Bank::new`", "`Slot::index`"),
+        ("`Bank::from_byte`", "`Bank::made`"),
+        ("`Bank::from_byte`", "`Slot::to_byte`"),
         ("`framing::is_framed`", "`packed::is_framed`"),
         ("`prefix::check`", "`head::check`"),
         ("`dm_pack`", "`dm_parcel`"),
@@ -102,6 +102,7 @@ fn only_what_is_declared_is_a_name() {
     );
     sources.add("one/specs/Said.antt", "pub record Said (a : A) : Type 0 where\n  pub field : A\n\nabbrev pub said : A → B\n");
     sources.add("one/src/lib.rt", "pub struct Kind(pub u8);\n\nimpl Kind {\n    pub fn new() -> Kind\n{\n}\n}\n\npub fn free() -> u8\n");
+    sources.add("one/src/lent.rt", "pub trait Told {\n    fn told(self) -> u8;\n}\n\nimpl<'a> Told for Lent<'a> {\n    fn told(self) -> u8 {\n    }\n}\n\npub static ALL: [u8; 2] = [1, 2];\n");
     let asked = |text: &str| sources.missing(&Block { line: 1, row: false, text: text.to_string() }).is_empty();
     for there in [
         "`law`",
@@ -114,6 +115,10 @@ fn only_what_is_declared_is_a_name() {
         "`new`",
         "`free`",
         "`one::free`",
+        "`Told`",
+        "`Told::told`",
+        "`Lent::told`",
+        "`ALL`",
         "`law` `one/proofs/Law.antt`",
         "`free` `one/specs/Said.antt`",
         "`one`",
@@ -209,7 +214,7 @@ fn the_walks_follow_the_calls() {
     assert!(blocks(&document).iter().filter(|block| block.step().is_some()).count() > 30, "few steps were read");
     for (from, to) in [
         ("`read_header` in", "`run_of` in"),
-        ("`skip` in", "`ends` in"),
+        ("`moved` in", "`broken` in"),
         ("`stream::feed` in", "`STATE_LEN` in"),
         ("`put_frame` in", "`encode_into` in"),
     ] {
