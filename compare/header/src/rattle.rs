@@ -97,6 +97,7 @@ fn refusals(text: &str) -> Vec<(String, u64)> {
     let Some((_, body)) = text.split_once("pub fn number(self) -> u8") else {
         return Vec::new();
     };
+    let body = body.split_once("\n    }\n").map_or(body, |(own, _)| own);
     each(body, "Refusal::", |arm| Some((constant_in_c(word(arm).0), number(arm.split_once("=>")?.1.split_once(',')?.0)?)))
 }
 
