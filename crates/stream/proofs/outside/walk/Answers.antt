@@ -18,8 +18,8 @@ returns-then-i-bytes c =
     let l = c.loop-at in
     outside_ends l.invariant c.loop-at-test.true c.if-i-bytes.true _ _ _ c.quiet.ensures c.put_waiting.ensures refl
 
-pub overflow_add-i-in-0-to-127 : goal.overflow_add-i-in-0-to-127
-overflow_add-i-in-0-to-127 c =
+pub overflow_add-i-then-middle-eq0 : goal.overflow_add-i-then-middle-eq0
+overflow_add-i-then-middle-eq0 c =
     let l = c.loop-at in
     let more : l.i < length c.args.bytes.now = omega (arith, l.invariant.within) in
     let on = stray_on l.invariant c.loop-at-test.true more (omega arith) c.if-middle-eq0.true _ _ c.data_run-i.ensures in
@@ -31,8 +31,8 @@ loop-at-preserved-then-middle-eq0 c =
     let more : l.i < length c.args.bytes.now = omega (arith, l.invariant.within) in
     stray_on l.invariant c.loop-at-test.true more (omega arith) c.if-middle-eq0.true _ _ c.data_run-i.ensures
 
-pub returns-in-0-to-127-2 : goal.returns-in-0-to-127-2
-returns-in-0-to-127-2 c =
+pub returns-then-middle-ge-PENDING : goal.returns-then-middle-ge-PENDING
+returns-then-middle-ge-PENDING c =
     let l = c.loop-at in
     let more : l.i < length c.args.bytes.now = omega (arith, l.invariant.within) in
     let h = l.invariant.outside c.loop-at-test.true in
@@ -41,8 +41,8 @@ returns-in-0-to-127-2 c =
     (second_ends l.state h.free l.middle l.first (get_or c.args.bytes.now l.i 0) (l.i + 1) h.numbers _ _ l.store (omega arith) c.if-middle-eq0.false c.if-middle-ge-PENDING.true _
     (status_back l.middle c.if-middle-ge-PENDING.true) e.0 e.1)
 
-pub returns-in-0-to-127-3 : goal.returns-in-0-to-127-3
-returns-in-0-to-127-3 c =
+pub returns-then-takes_one : goal.returns-then-takes_one
+returns-then-takes_one c =
     let l = c.loop-at in
     let more : l.i < length c.args.bytes.now = omega (arith, l.invariant.within) in
     let h = l.invariant.outside c.loop-at-test.true in
@@ -74,8 +74,8 @@ returns-then-bytes-i-lt128 c =
     (second_ends l.state h.free (l.middle + 16_777_216) byte (get_or c.args.bytes.now (l.i + 1) 0) (l.i + 1 + 1) leads.outside _ _ l.store
     c.if-bytes-i-lt128.true (λ z. omega (arith, z)) (omega arith) _ (sym (status_stays l.middle)) e.0 e.1)
 
-pub loop-at-preserved-then-byte-lt128 : goal.loop-at-preserved-then-byte-lt128
-loop-at-preserved-then-byte-lt128 c =
+pub loop-at-preserved-else-i-bytes-2 : goal.loop-at-preserved-else-i-bytes-2
+loop-at-preserved-else-i-bytes-2 c =
     let l = c.loop-at in
     let more : l.i < length c.args.bytes.now = omega (arith, l.invariant.within) in
     let h = l.invariant.outside c.loop-at-test.true in
@@ -107,8 +107,8 @@ loop-at-preserved-then-byte-lt244 c =
     (leads_on l.invariant c.loop-at-test.true more _ _
     (held_leads l.middle l.first (get_or l.state 13 0) (get_or a.bytes.now l.i 0) l.store h.numbers (omega arith) (omega arith) (λ e. omega arith)))
 
-pub loop-at-preserved-then-byte-lt248 : goal.loop-at-preserved-then-byte-lt248
-loop-at-preserved-then-byte-lt248 c =
+pub loop-at-preserved-in-244-to-247 : goal.loop-at-preserved-in-244-to-247
+loop-at-preserved-in-244-to-247 c =
     let l = c.loop-at in
     let more : l.i < length c.args.bytes.now = omega (arith, l.invariant.within) in
     let h = l.invariant.outside c.loop-at-test.true in
@@ -125,8 +125,8 @@ returns-then-is_realtime c =
 pub bounds-store-0 : goal.bounds-store-0
 bounds-store-0 c = omega (arith, c.loop-at.invariant.room, room_for_three)
 
-pub loop-at-preserved-in-240 : goal.loop-at-preserved-in-240
-loop-at-preserved-in-240 c =
+pub loop-at-preserved-in-240-1 : goal.loop-at-preserved-in-240-1
+loop-at-preserved-in-240-1 c =
     let l = c.loop-at in
     let more : l.i < length c.args.bytes.now = omega (arith, l.invariant.within) in
     opens_on l.invariant c.loop-at-test.true more c.in-240.is _ _ c.put_waiting-in-240.ensures refl
@@ -137,8 +137,16 @@ returns-in-246 c =
     let more : l.i < length c.args.bytes.now = omega (arith, l.invariant.within) in
     outside_tune l.invariant c.loop-at-test.true more c.in-246.is _ _ _ c.tune.ensures c.put_waiting-in-246.ensures refl
 
+pub loop-at-preserved-in_default-2 : goal.loop-at-preserved-in_default-2
+loop-at-preserved-in_default-2 c =
+    let l = c.loop-at in
+    let more : l.i < length c.args.bytes.now = omega (arith, l.invariant.within) in
+    unnamed_on l.invariant c.loop-at-test.true more (omega (arith, c.type_inv.bytes l.i)) (omega arith) (sym c.is_realtime.ensures ∙ c.if-is_realtime.false)
+
 pub loop-at-preserved : goal.loop-at-preserved
 loop-at-preserved c =
     let l = c.loop-at in
     let more : l.i < length c.args.bytes.now = omega (arith, l.invariant.within) in
-    unnamed_on l.invariant c.loop-at-test.true more (omega (arith, c.type_inv.bytes l.i)) (omega arith) (sym c.is_realtime.ensures ∙ c.if-is_realtime.false)
+    let h = l.invariant.outside c.loop-at-test.true in
+    leads_on l.invariant c.loop-at-test.true more _ _
+    (cleared_leads l.middle l.first (get_or l.state 13 0) (get_or c.args.bytes.now l.i 0) l.store h.numbers (omega arith) (omega arith) (λ e. omega arith))
