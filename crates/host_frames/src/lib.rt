@@ -122,7 +122,7 @@ pub fn dm_frame_read(bytes: &[u8]) -> ReadAnswer
 fn pattern_flag_fits(command: u8, has_pattern: u8) -> bool
     ensures { result ≡ pattern_flag_fits command has_pattern }
 {
-    has_pattern <= 1 || command != 0x08
+    has_pattern <= 1 || command != Command::UserPatternDumpResponse.to_byte()
 }
 
 // The length of a message of this command. Refuses 6, 22.

@@ -176,7 +176,7 @@ fn identity_words<W: fmt::Write>(f: &mut fmt::Formatter<W>, identity: Identity) 
 }
 
 // A version with a dot between its numbers.
-#[derive(Drop)]
+#[derive(Clone, Copy)]
 struct Dotted(Version);
 
 impl fmt::Display for Dotted {
