@@ -5,3 +5,4 @@ pub mod Steps
 pub mod Walking
 pub mod Calling
 pub mod StepLaws
+pub mod Longer

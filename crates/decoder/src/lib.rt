@@ -125,13 +125,13 @@ impl Decoder {
     pub fn feed(self, store: &mut [u8], bytes: &[u8]) -> Result<Fed, Refusal>
         ensures { Feeds (call self store.old bytes.now) result store.old store.new }
     {
-        if store.len() < MAX_SYSEX_LEN {
-            return Err(Refusal::BadStore);
-        }
         if !self.is_sound() {
             return Err(Refusal::BadStore);
         }
-        Ok(self.walk(store, bytes))
+        let Some(front) = store.first_chunk_mut() else {
+            return Err(Refusal::BadStore);
+        };
+        Ok(self.walk(front, bytes))
     }
 
     // Document 01's "sound": what a call takes.
@@ -253,8 +253,8 @@ impl Decoder {
     }
 
     // One byte, by its class.
-    fn step(self, store: &mut [u8], byte: u8) -> Stepped
-        requires { limit ≤ length store.old }
+    #[tactic(auto, using(crate::proofs::Limit::limit_is))]
+    fn step(self, store: &mut [u8; MAX_SYSEX_LEN], byte: u8) -> Stepped
         ensures { (result ≡ step self byte) × (store.new ≡ stored self store.old byte) }
     {
         let at = self.len;
@@ -300,8 +300,8 @@ impl Decoder {
     }
 
     // Takes bytes until the first that reports, one by one.
-    fn walk(self, store: &mut [u8], bytes: &[u8]) -> Fed
-        requires { limit ≤ length store.old }
+    #[tactic(auto, using(crate::proofs::Limit::limit_is))]
+    fn walk(self, store: &mut [u8; MAX_SYSEX_LEN], bytes: &[u8]) -> Fed
         ensures { Walks (walk self store.old bytes.now) result store.new }
     {
         let mut state = self;

@@ -1,6 +1,6 @@
 -- `Decoder::step` meets its contract: each arm does what the byte's class does.
 use Rattle.decoder.proofs.Steps.{data_fits, data_over, data_plain, end_fits, end_over, end_plain, step_by}
-use Rattle.decoder.proofs.Limit.{limit_is, room_for_three}
+use Rattle.decoder.proofs.Limit.{limit_is}
 use Rattle.decoder.specs.State.{limit}
 use Rattle.decoder.specs.declared.Class.TheVariants as k
 use borrow.Author.Tests.{not-true, not-false}
@@ -24,24 +24,12 @@ returns-then-at-ge-MAX_SYSEX_LEN c =
     step_by k.Data a.self a.store.now a.byte (sym c.class_of-class.ensures ∙ c.in-Data.is) _ _
     (c.too_long.ensures ∙ sym eqs.0) (sym eqs.1)
 
-pub bounds-store-at : goal.bounds-store-at
-bounds-store-at c = omega (arith, limit_is)
-
-pub longer-requires : goal.longer-requires
-longer-requires c = omega (arith, limit_is)
-
-pub bounds-store-0 : goal.bounds-store-0
-bounds-store-0 c = omega (arith, room_for_three)
-
 pub returns-then-not-self-2 : goal.returns-then-not-self-2
 returns-then-not-self-2 c =
     let a = c.args in
     let eqs = end_plain a.self a.store.now a.byte (not-true a.self.in_sysex c.if-not-self-2.true) in
     step_by k.End a.self a.store.now a.byte (sym c.class_of-class.ensures ∙ c.in-End.is) _ _
     (c.silent-then-not-self-2.ensures ∙ ap silent c.cleared-next.ensures ∙ sym eqs.0) (sym eqs.1)
-
-pub bounds-store-at-then-at-lt-MAX_SYSEX_LEN : goal.bounds-store-at-then-at-lt-MAX_SYSEX_LEN
-bounds-store-at-then-at-lt-MAX_SYSEX_LEN c = omega (arith, limit_is)
 
 pub returns-then-at-lt-MAX_SYSEX_LEN : goal.returns-then-at-lt-MAX_SYSEX_LEN
 returns-then-at-lt-MAX_SYSEX_LEN c =
