@@ -59,16 +59,19 @@ module _ {from before store : List ℕ} {n : ℕ} (room : length from ≤ length
           ∙ ap (λ (y : ℕ). window before 0 (take y from)) (sym e)
 
 -- a run that was copied to the store from a place on
-pub run_moved_there : (at used most n : ℕ) (store bytes new : List ℕ) → limit ≤ length store → at ≤ limit → used ≤ length bytes
+pub run_moved_there : (full at used most n : ℕ) (store bytes new : List ℕ) → full ≡ length store → limit ≤ full → at ≤ limit → used ≤ length bytes
     → most ≡ min (limit - at) (length bytes - used) → n ≡ data_run (take most (drop used bytes))
-    → new ≡ window (take (length store - at) (drop at store)) 0 (take n (take most (drop used bytes)))
-    → RunMoved at used n store (put_mid at (length store - at) store new) bytes
-run_moved_there at used most n store bytes new room fits within most-is n-is new-is =
+    → new ≡ window (take (full - at) (drop at store)) 0 (take n (take most (drop used bytes)))
+    → RunMoved at used n store (put_mid at (full - at) store new) bytes
+run_moved_there full at used most n store bytes new whole room fits within most-is n-is new-is =
     let xs : List ℕ = drop used bytes in
     let long : length xs ≡ length bytes - used = length-drop used bytes in
     let all : n ≡ min (limit - at) (data_run xs) = omega (arith, n-is, run_take xs most, most-is, long, run_within xs) in
     let same : take n (take most xs) ≡ take n xs = take-take n most xs (omega (arith, n-is, run_take xs most)) in
+    let part : ℕ → List ℕ = λ (f : ℕ). take (f - at) (drop at store) in
+    let new-at : new ≡ window (part (length store)) 0 (take n (take most xs)) = new-is ∙ ap (λ (f : ℕ). window (part f) 0 (take n (take most xs))) whole in
     record {
       all = all;
-      moved = lent_window store (take n xs) new at (omega arith) (new-is ∙ ap (window (take (length store - at) (drop at store)) 0) same ∙ window_front _ (take n xs));
+      moved = ap (λ (f : ℕ). put_mid at (f - at) store new) whole
+          ∙ lent_window store (take n xs) new at (omega (arith, whole)) (new-at ∙ ap (window (part (length store)) 0) same ∙ window_front _ (take n xs));
     }

@@ -120,11 +120,12 @@ open_begins entry l store bytes is long fine entry-is opens =
         ∙ ap₂ (λ (v : Option ℕ) (h : ℕ). record { in_sysex = true; len = n; status = v; have = h; data0 = d.data0; data1 = d.data1 }) r t
 
 -- where a call begins the walk has come to the state that the numbers say
-pub walk_begins : (entry m a : ℕ) (l store bytes : List ℕ) → Ready entry m a l store → Reached (walk (state_of l) store bytes) l store bytes l store entry m a 0
-walk_begins entry m a l store bytes ready =
+pub walk_begins : (entry m a : ℕ) (l store bytes : List ℕ) → Ready entry m a l → limit ≤ length store
+    → Reached (walk (state_of l) store bytes) l store bytes l store entry m a 0
+walk_begins entry m a l store bytes ready room =
     record {
       within = omega arith;
-      room = ready.room;
+      room = room;
       long = ready.long;
       same_state = refl;
       same_store = refl;

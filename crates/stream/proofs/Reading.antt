@@ -1,20 +1,22 @@
 -- Three numbers and the first data byte tell whether a call takes a state, because they are put together of the state's bytes, and the bytes can
 -- be told from them.
 use Rattle.std.specs.Prelude.{Some}
-use mathlib.Core.Path.{◌≡◌, refl, ap, sym, ◌∙◌}
+use mathlib.Core.Path.{◌≡◌, refl, ap, sym, subst, ◌∙◌}
 use mathlib.Core.Bool.{Bool, true, false, ◌&&◌}
-use mathlib.Core.List.{List, []}
+use mathlib.Core.List.{List, [], ◌++◌}
 use Prim.Native.Nat.{ℕ, ◌+◌, ◌*◌, ◌/◌, ◌%◌, ◌≤◌, ◌<◌}
 use native.Mathlib.Omega.{arith}
 use lib.Dec.{leb, eqb}
-use lib.ListN.{length, get_or}
+use lib.ListN.{length, take, drop, get_or, take-append-drop}
+use Rattle.std.proofs.lemmas.List.{length-take-le}
 use borrow.Author.Tests.{eq-eqb, ne_eqb, le-leb, eqb-true, eqb-false, leb-true}
 use Rattle.laws.specs.Choice.{pick}
 use Rattle.laws.proofs.Tests.{split, both, true_is_not_false}
-use Rattle.refusal.specs.Outcome.{gives, refused}
+use Rattle.refusal.specs.Outcome.{Outcome, gives, refused}
 use Rattle.decoder.specs.State.{limit, sound, waits_soundly}
 use Rattle.decoder.specs.Call.{Walked, walk}
 use Rattle.decoder.proofs.Calling.{short_refused, unsound_refused, ready_walks}
+use Rattle.decoder.proofs.Longer.{longer_by, walk_front}
 use Rattle.stream.specs.declared.FedAnswer.{FedAnswer}
 use Rattle.stream.specs.State.{is_state, state_of, state_length}
 use Rattle.stream.specs.Feed.{feed_call, refused_feed, StreamFed}
@@ -34,6 +36,34 @@ walked_so state store bytes w r later left e n = rw e (record { answers = n.told
 
 pub short_store : (state store bytes : List ℕ) → length store < limit → feed_call state store bytes ≡ refused 20 []
 short_store state store bytes h = split (is_state state) (λ t. rw t (short_refused (state_of state) store bytes h)) (λ t. rw t)
+
+-- a call on the front of a store is the call on the store, with the rest as it was
+pub fed_front : (state store front bytes : List ℕ) (n : ℕ) → limit ≤ n → n ≤ length store → front ≡ take n store → (r : FedAnswer) (later left : List ℕ)
+    → StreamFed (feed_call state front bytes) r state later front left → StreamFed (feed_call state store bytes) r state later store (left ++ drop n store)
+fed_front state store front bytes n enough long is r later left f =
+    split (is_state state)
+    (λ t. split (sound (state_of state)) (λ u. walks t u)
+    (λ u. stays (rw t (unsound_refused (state_of state) front bytes u)) (rw t (unsound_refused (state_of state) store bytes u))))
+    (λ t. stays (rw t) (rw t))
+  where
+    back : front ++ drop n store ≡ store
+    back = ap (λ (l : List ℕ). l ++ drop n store) is ∙ take-append-drop n store
+
+    stays : feed_call state front bytes ≡ refused 20 [] → feed_call state store bytes ≡ refused 20 []
+        → StreamFed (feed_call state store bytes) r state later store (left ++ drop n store)
+    stays p q =
+        let g : StreamFed (refused 20 []) r state later front left = subst (λ (o : Outcome Walked). StreamFed o r state later front left) p f in
+        rw q (record { answers = g.answers; keeps = g.keeps; leaves = ap (λ (l : List ℕ). l ++ drop n store) g.leaves ∙ back })
+
+    walks : is_state state ≡ true → sound (state_of state) ≡ true → StreamFed (feed_call state store bytes) r state later store (left ++ drop n store)
+    walks t u =
+        let d = state_of state in
+        let room : limit ≤ length front = omega (arith, enough, length-take-le n store long, ap length is) in
+        let p : feed_call state front bytes ≡ gives (walk d front bytes) = rw t (ready_walks d front bytes room u) in
+        let q : feed_call state store bytes ≡ gives (longer_by (drop n store) (walk d front bytes)) =
+        rw t (ready_walks d store bytes (omega (arith, enough, long)) u) ∙ ap (λ (w : Walked). gives w) (walk_front d store front bytes n enough long is) in
+        let g : StreamFed (gives (walk d front bytes)) r state later front left = subst (λ (o : Outcome Walked). StreamFed o r state later front left) p f in
+        rw q (record { answers = g.answers; keeps = g.keeps; leaves = ap (λ (l : List ℕ). l ++ drop n store) g.leaves })
 
 -- the bytes of a number of four
 digits_of : (a b c d : ℕ) → a < 256 → b < 256 → c < 256
@@ -118,8 +148,8 @@ module _ (l : List ℕ) (long : length l ≡ 14) (bytes : (i : ℕ) → get_or l
       (λ f. let q = both (eqb M 0) (open_taken F) (rw f at p.1) in frame_says h (eqb-true M 0 q.0) q.1)
 
   -- a state that is taken is ready for the walk
-  pub taken_ready : (store : List ℕ) → limit ≤ length store → taken F H M (get_or l 12 0) ≡ true → Ready (F / 256) M (get_or l 12 0) l store
-  taken_ready store room t =
+  pub taken_ready : taken F H M (get_or l 12 0) ≡ true → Ready (F / 256) M (get_or l 12 0) l
+  taken_ready t =
       let x = says t in
       let p = both (eqb (length l) 14) _ x.is in
       let q = both (leb (get_or l 0 0) 1) _ p.1 in
@@ -132,7 +162,6 @@ module _ (l : List ℕ) (long : length l ≡ 14) (bytes : (i : ℕ) → get_or l
         length_is = x.length_is;
         middle = rw (status.0, status.1) (omega (arith, x.top));
         first = refl;
-        room = room;
       }
 
   pub taken_walks : (store bs : List ℕ) → limit ≤ length store → taken F H M (get_or l 12 0) ≡ true → feed_call l store bs ≡ gives (walk (state_of l) store bs)

@@ -46,69 +46,46 @@ fn moved_run(from: &[u8], to: &mut [u8]) -> usize
 
 // Moves the data bytes behind the used ones to the store, as far as they go and the frame has room. Answers how many.
 #[tactic(auto, using(decoder::proofs::Limit::limit_is))]
-fn moved(at: usize, used: usize, store: &mut [u8], bytes: &[u8]) -> usize
-    requires { (limit ≤ length store.old) × (at ≤ limit) × (used ≤ length bytes.now) }
+fn moved(at: usize, used: usize, store: &mut [u8; MAX_SYSEX_LEN], bytes: &[u8]) -> usize
+    requires { (at ≤ limit) × (used ≤ length bytes.now) }
     ensures { RunMoved at used result store.old store.new bytes.now }
 {
     let most = (MAX_SYSEX_LEN - at).min(bytes.len() - used);
     moved_run(&bytes[used..used + most], &mut store[at..])
 }
 
-// A status byte 80 to F6 breaks the frame off: 18, then what it does itself.
-#[tactic(auto, using(decoder::proofs::Limit::room_for_three))]
-fn broken(
-    byte: u8,
-    at: usize,
-    used: usize,
-    state: &mut [u8; STATE_LEN],
-    store: &mut [u8],
-) -> FedAnswer
-    requires { MiddleFree state.old × (limit ≤ length store.old) × (0x80 ≤ byte) × (byte < 0xF7) }
-    ensures { Answers (open_state at state.old) store.old byte used result state.new store.new }
-{
-    match byte {
-        0xF0 => {
-            store[0] = byte;
-            numbers::put_open(1, state);
-            answer::interrupted(used)
-        }
-        0x80..0xF4 => {
-            numbers::put_closed(state);
-            numbers::put_middle(numbers::held(byte), state);
-            answer::interrupted(used)
-        }
-        0xF6 => {
-            numbers::put_closed(state);
-            answer::interrupted_by_tune(used)
-        }
-        _ => {
-            numbers::put_closed(state);
-            answer::interrupted(used)
-        }
-    }
-}
-
-// A byte below F8 behind a run, in a frame of so many bytes: F7 ends it, within the limit; a data byte has no room left.
+// A byte below F8 behind a run, in a frame of so many bytes. A status byte 80 to F6 breaks the frame off: 18, then what it does itself. F7 ends it,
+// within the limit; a data byte has no room left.
 #[tactic(auto, using(decoder::proofs::Limit::limit_is))]
 fn ends(
     byte: u8,
     at: usize,
     used: usize,
     state: &mut [u8; STATE_LEN],
-    store: &mut [u8],
+    store: &mut [u8; MAX_SYSEX_LEN],
 ) -> FedAnswer
-    requires { MiddleFree state.old × (limit ≤ length store.old) × (at ≤ limit) × (byte < 0xF8) × (byte < 0x80 → limit ≤ at) }
+    requires { MiddleFree state.old × (at ≤ limit) × (byte < 0xF8) × (byte < 0x80 → limit ≤ at) }
     ensures { Answers (open_state at state.old) store.old byte used result state.new store.new }
 {
-    if 0x80 <= byte && byte < 0xF7 {
-        return broken(byte, at, used, state, store);
+    if byte == 0xF0 {
+        store[0] = byte;
+        numbers::put_open(1, state);
+        return answer::interrupted(used);
     }
     numbers::put_closed(state);
-    if at < MAX_SYSEX_LEN {
-        store[at] = byte;
-        return answer::frame(at + 1, used);
+    match byte {
+        0x80..0xF4 => {
+            numbers::put_middle(numbers::held(byte), state);
+            answer::interrupted(used)
+        }
+        0xF4..0xF6 => answer::interrupted(used),
+        0xF6 => answer::interrupted_by_tune(used),
+        _ if at < MAX_SYSEX_LEN => {
+            store[at] = byte;
+            answer::frame(at + 1, used)
+        }
+        _ => answer::too_long(used),
     }
-    answer::too_long(used)
 }
 
 // The rest of a call, behind the bytes used so far, in an open frame of so many bytes. The index is counted by hand, since a run is moved at once.
@@ -117,10 +94,10 @@ pub fn read(
     start: usize,
     from: usize,
     state: &mut [u8; STATE_LEN],
-    store: &mut [u8],
+    store: &mut [u8; MAX_SYSEX_LEN],
     bytes: &[u8],
 ) -> FedAnswer
-    requires { MiddleFree state.old × (limit ≤ length store.old) × (start ≤ limit) × (from ≤ length bytes.now) }
+    requires { MiddleFree state.old × (start ≤ limit) × (from ≤ length bytes.now) }
     ensures { Numbered (further from (walk (open_state start state.old) store.old (drop from bytes.now))) result state.new store.new }
 {
     let mut at = start;

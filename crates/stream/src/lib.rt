@@ -43,23 +43,34 @@ pub const COMMON: u64 = 3;
 
 pub const REALTIME: u64 = 4;
 
+// A call whose state and store have the lengths that they should.
+fn feed_lent(
+    state: &mut [u8; STATE_LEN],
+    store: &mut [u8; MAX_SYSEX_LEN],
+    bytes: &[u8],
+) -> FedAnswer
+    ensures { StreamFed (feed_call state.old store.old bytes.now) result state.old state.new store.old store.new }
+{
+    let front = numbers::four_at(state, 0);
+    let above = numbers::four_at(state, 4);
+    let middle = numbers::four_at(state, 8);
+    let first = state[12];
+    if !numbers::takes(front, above, middle, first) {
+        return answer::refused();
+    }
+    outside::walk((front / 256) as usize, middle, first, state, store, bytes)
+}
+
 // Takes bytes until the first that reports. state and store are lent at every call as the last one left them. Refuses 20, and then uses and
 // writes nothing.
 pub fn feed(state: &mut [u8], store: &mut [u8], bytes: &[u8]) -> FedAnswer
     ensures { StreamFed (feed_call state.old store.old bytes.now) result state.old state.new store.old store.new }
 {
-    let Some(kept) = state.as_mut_array() else {
+    let Some(state) = state.as_mut_array() else {
         return answer::refused();
     };
-    if store.len() < MAX_SYSEX_LEN {
+    let Some(store) = store.first_chunk_mut() else {
         return answer::refused();
-    }
-    let front = numbers::four_at(kept, 0);
-    let above = numbers::four_at(kept, 4);
-    let middle = numbers::four_at(kept, 8);
-    let first = kept[12];
-    if !numbers::takes(front, above, middle, first) {
-        return answer::refused();
-    }
-    outside::walk((front / 256) as usize, middle, first, kept, store, bytes)
+    };
+    feed_lent(state, store, bytes)
 }

@@ -9,6 +9,7 @@ ghost use Rattle.stream.specs.quick.Going.{Numbered, Under, FrontFree, Ready};
 
 use crate::numbers::PENDING;
 use crate::{FedAnswer, STATE_LEN, answer, frame, numbers};
+use decoder::MAX_SYSEX_LEN;
 use octets::data_bytes::data_run;
 
 // The only data byte of a message, under the status that this number says. A channel status stays in force, F1 and F3 do not.
@@ -19,10 +20,10 @@ fn ends_one(held: u32, only: u8, used: usize, state: &mut [u8; STATE_LEN]) -> Fe
     let status = numbers::status_in(held);
     if status < 0xF0 {
         numbers::put_waiting(held, only, state);
-        return answer::channel(status, only as u64, 0, used);
+        return answer::channel(status, u64::from(only), 0, used);
     }
     numbers::put_waiting(0, only, state);
-    answer::common(status, only as u64, used)
+    answer::common(status, u64::from(only), used)
 }
 
 // The second data byte of a message: the two of a bend and of a position are one number. F2 does not stay in force.
@@ -34,7 +35,7 @@ fn ends_two(held: u32, first: u8, second: u8, used: usize, state: &mut [u8; STAT
     state[13] = second;
     if status < 0xC0 {
         numbers::put_waiting(held, first, state);
-        return answer::channel(status, first as u64, second as u64, used);
+        return answer::channel(status, u64::from(first), u64::from(second), used);
     }
     let value = u64::from(wire::bend(first, second));
     if status < 0xF0 {
@@ -53,10 +54,10 @@ pub fn walk(
     mut middle: u32,
     mut first: u8,
     state: &mut [u8; STATE_LEN],
-    store: &mut [u8],
+    store: &mut [u8; MAX_SYSEX_LEN],
     bytes: &[u8],
 ) -> FedAnswer
-    requires { Ready at middle first state.old store.old }
+    requires { Ready at middle first state.old }
     ensures { Numbered (walk (state_of state.old) store.old bytes.now) result state.new store.new }
 {
     let mut i = 0;

@@ -39,15 +39,14 @@ FrontFree l = (length l ≡ 14) × (put_word 0 l 0 ≡ l)
 abbrev pub MiddleFree : List ℕ → Type 0
 MiddleFree l = (length l ≡ 14) × (put_middle 0 l ≡ l)
 
--- what a call begins with, read from the state's bytes l: an open frame's length or 0, the numbers of what waits, and room in the store
-pub record Ready (entry m a : ℕ) (l store : List ℕ) : Type 0 where
+-- what a call begins with, read from the state's bytes l: an open frame's length or 0, and the numbers of what waits
+pub record Ready (entry m a : ℕ) (l : List ℕ) : Type 0 where
   pub bytes : l ≡ encoded (state_of l)
   pub long : length l ≡ 14
   pub fine : sound (state_of l) ≡ true
   pub length_is : entry ≡ pick (state_of l).in_sysex (state_of l).len 0
   pub middle : m ≡ waiting_number (state_of l)
   pub first : a ≡ (state_of l).data0
-  pub room : limit ≤ length store
 
 -- the first n bytes of `from` are data bytes, and were copied to the front of a buffer
 pub record Copied (n : ℕ) (from before after : List ℕ) : Type 0 where

@@ -1,23 +1,45 @@
--- `ends` meets its contract: a status byte that breaks the frame off, its end, or a byte beyond the limit.
-use mathlib.Core.Path.{refl}
+-- `ends` meets its contract, class by class.
+use mathlib.Core.Path.{refl, ap₂, ◌∙◌}
 use native.Mathlib.Omega.{arith}
 use Rattle.decoder.proofs.Limit.{limit_is}
-use Rattle.stream.proofs.FrameSteps.{end_answers, beyond_answers, end_is}
+use Rattle.stream.specs.quick.Bytes.{put_middle}
+use Rattle.stream.proofs.FrameSteps.{start_answers, held_answers, undefined_answers, tune_answers, end_answers, beyond_answers}
 use Rattle.stream.proofs.frame.ends.Goals as goal
+use Rattle.stream.proofs.frame.ends.Goals.{in_default-via-then-byte-lt128, in_default-via-else-byte-lt128+else-byte-lt244+else-byte-lt246}
 
-pub returns-then-at-lt-MAX_SYSEX_LEN : goal.returns-then-at-lt-MAX_SYSEX_LEN
-returns-then-at-lt-MAX_SYSEX_LEN c =
+pub returns-then-byte-eq240 : goal.returns-then-byte-eq240
+returns-then-byte-eq240 c =
+    let a = c.args in
+    start_answers a.state.now c.requires.0 a.at a.store.now a.byte a.used _ _ _ c.if-byte-eq240.true c.interrupted.ensures c.put_open.ensures refl
+
+pub returns-in-128-to-243 : goal.returns-in-128-to-243
+returns-in-128-to-243 c =
+    let a = c.args in
+    held_answers a.state.now c.requires.0 a.at a.store.now a.byte a.used _ _ _ (omega arith) (omega arith) c.if-byte-eq240.false c.interrupted-in-128-to-243.ensures
+    (c.put_middle.ensures ∙ ap₂ put_middle c.held.ensures c.put_closed.ensures) refl
+
+pub returns-in-244-to-245 : goal.returns-in-244-to-245
+returns-in-244-to-245 c =
+    let a = c.args in
+    undefined_answers a.state.now c.requires.0 a.at a.store.now a.byte a.used _ _ _ (omega arith) (omega arith) c.interrupted-in-244-to-245.ensures c.put_closed.ensures refl
+
+pub returns-in-246 : goal.returns-in-246
+returns-in-246 c =
+    let a = c.args in
+    tune_answers a.state.now c.requires.0 a.at a.store.now a.byte a.used _ _ _ c.in-246.is c.interrupted_by_tune.ensures c.put_closed.ensures refl
+
+pub returns-in_default : goal.returns-in_default
+returns-in_default c =
     let a = c.args in
     let p = c.requires in
     end_answers a.state.now p.0 a.at a.store.now a.byte a.used _ _ _
-    (end_is a.byte a.at p.3 p.4 (omega (arith, limit_is))
-    (λ l h. omega arith))
+    (elim c.in_default.branch [ in_default-via-then-byte-lt128 w ↦ absurd (omega (arith, limit_is, p.3)) | in_default-via-else-byte-lt128+else-byte-lt244+else-byte-lt246 w ↦ omega arith ])
     (omega (arith, limit_is)) c.frame.ensures c.put_closed.ensures refl
 
-pub returns : goal.returns
-returns c =
+pub returns-in_default-2 : goal.returns-in_default-2
+returns-in_default-2 c =
     let a = c.args in
     let p = c.requires in
-    beyond_answers a.state.now p.0 a.at a.store.now a.byte a.used _ _ _ p.3
-    (λ l h. omega arith)
+    beyond_answers a.state.now p.0 a.at a.store.now a.byte a.used _ _ _ p.2
+    (λ l h. elim c.in_default.branch [ in_default-via-then-byte-lt128 w ↦ omega arith | in_default-via-else-byte-lt128+else-byte-lt244+else-byte-lt246 w ↦ omega arith ])
     (omega (arith, limit_is)) c.too_long.ensures c.put_closed.ensures refl

@@ -27,7 +27,7 @@ ends-requires c =
     let m = c.moved-run in
     let b = run_moved l.invariant m.ensures in
     let more : l.used + m.result < length c.args.bytes.now = omega (arith, b.on.within) in
-    (b.free, b.room, b.fits, c.if-byte-lt248.true, no_room_there l.invariant m.ensures more)
+    (b.free, b.fits, c.if-byte-lt248.true, no_room_there l.invariant m.ensures more)
 
 pub returns-then-byte-lt248 : goal.returns-then-byte-lt248
 returns-then-byte-lt248 c =

@@ -1,5 +1,5 @@
 -- `ends_two` meets its contract.
-use mathlib.Core.Path.{ap, ◌∙◌}
+use mathlib.Core.Path.{ap, ap₂, ◌∙◌}
 use Prim.Native.Nat.{ℕ}
 use Rattle.stream.proofs.Told.{numbers}
 use Rattle.stream.proofs.Whole.{plain_of_two, bend_of_two, common_of_two}
@@ -9,8 +9,8 @@ pub returns-then-status-lt192 : goal.returns-then-status-lt192
 returns-then-status-lt192 c =
     let a = c.args in
     let p = c.requires in
-    plain_of_two a.state.now p.0 a.held _ a.used c.status_in-status.ensures _ _ a.first a.second p.1 p.2 p.3 c.if-status-lt192.true c.channel.ensures
-    c.put_waiting.ensures
+    plain_of_two a.state.now p.0 a.held _ a.used c.status_in-status.ensures _ _ a.first a.second p.1 p.2 p.3 c.if-status-lt192.true
+    (c.channel.ensures ∙ ap₂ (numbers a.used 1 c.status_in-status.result) c.from.ensures c.from-then-status-lt192.ensures) c.put_waiting.ensures
 
 pub returns-then-status-lt240 : goal.returns-then-status-lt240
 returns-then-status-lt240 c =

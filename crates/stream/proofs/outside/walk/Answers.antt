@@ -4,14 +4,14 @@ use Prim.Native.Nat.{ℕ, ◌+◌, ◌<◌}
 use native.Mathlib.Omega.{arith}
 use lib.ListN.{length, get_or}
 use Rattle.decoder.specs.Call.{walk}
-use Rattle.decoder.proofs.Limit.{room_for_three}
+use Rattle.decoder.proofs.Limit.{limit_is, room_for_three}
 use Rattle.stream.specs.State.{state_of}
 use Rattle.stream.proofs.OutsideSteps.{first_leads, held_leads, cleared_leads, status_stays, status_back, under_one, under_two, second_ends, only_ends}
 use Rattle.stream.proofs.Reached.{Reached, walk_begins, outside_ends, outside_answers, outside_realtime, outside_tune, leads_on, unnamed_on, stray_on, opens_on}
 use Rattle.stream.proofs.outside.walk.Goals as goal
 
 pub loop-at-init : goal.loop-at-init
-loop-at-init c = let a = c.args in walk_begins a.at a.middle a.first a.state.now a.store.now a.bytes.now c.requires
+loop-at-init c = let a = c.args in walk_begins a.at a.middle a.first a.state.now a.store.now a.bytes.now c.requires (omega (arith, limit_is))
 
 pub returns-then-i-bytes : goal.returns-then-i-bytes
 returns-then-i-bytes c =
