@@ -1,30 +1,21 @@
 // Runs of data bytes, eight at a time: how far one goes.
-ghost use Rattle.std.specs.Prelude.{◌≡◌, ◌+◌, ◌≤◌, length};
-ghost use Rattle.octets.specs.quick.Data.{data_run, all_data, top_bits_at};
+ghost use Rattle.std.specs.Prelude.{◌≡◌, ◌≤◌};
+ghost use Rattle.octets.specs.quick.Data.{data_run, all_data};
 
-use crate::words::{TOPS, WORD, word_at};
-
-// The top bits of the eight bytes from a place on, which are one load.
-#[tactic(auto, using(crate::proofs::data_bytes::Words::tops_read))]
-fn tops_at(bytes: &[u8], at: usize) -> u64
-    requires { at + 8 ≤ length bytes.now }
-    ensures { result ≡ top_bits_at bytes.now at }
-{
-    word_at(bytes, at) & TOPS
-}
+use crate::words::{TOPS, WORD, join};
 
 // How many bytes at the front are seen to be data bytes by whole words.
-#[tactic(auto, using(crate::proofs::data_bytes::Words::word_more))]
+#[tactic(auto, using(crate::proofs::data_bytes::Words::chunk_more))]
 fn data_words(bytes: &[u8]) -> usize
     ensures { result ≤ data_run bytes.now }
 {
-    let words = bytes.len() / WORD;
-    for w in 0..words {
-        if tops_at(bytes, w * WORD) != 0 {
+    let (words, _) = bytes.as_chunks::<WORD>();
+    for (w, eight) in words.iter().enumerate() {
+        if join(*eight) & TOPS != 0 {
             return w * WORD;
         }
     }
-    words * WORD
+    words.len() * WORD
 }
 
 // How many data bytes stand ahead of the first other byte.

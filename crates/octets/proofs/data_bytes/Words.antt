@@ -2,14 +2,16 @@
 -- the eight bytes are data bytes.
 use mathlib.Core.Path.{◌≡◌, refl, ap, ap₂, sym, ◌∙◌}
 use mathlib.Core.Bool.{true, false}
-use mathlib.Core.List.{List}
-use Prim.Native.Nat.{ℕ, ◌+◌, ◌*◌, ◌/◌, ◌%◌, ◌^◌, ◌≤◌, ◌<◌}
+use mathlib.Core.List.{List, []}
+use Prim.Native.Nat.{ℕ, zero, suc, ◌+◌, ◌*◌, ◌/◌, ◌%◌, ◌^◌, ◌≤◌, ◌<◌}
 use native.Mathlib.Omega.{arith}
 use lib.Bits.{bit_and, bit_or, and_block, and_high, and_zero_l, and_le_l, and_le_r, or_add_and, or_lt}
 use lib.Dec.{ltb, leb}
 use borrow.Author.Tests.{lt-ltb, le-ltb, le-leb, lt-leb, ltb-true, ltb-false, leb-true, leb-false}
 use Rattle.laws.proofs.Tests.{split}
-use lib.ListN.{get_or, length}
+use lib.ListN.{get_or, length, take, drop}
+use lib.Seq.{drop-drop, get_or-take, get_or-drop}
+use Rattle.std.specs.Simd.{first_chunks}
 use Rattle.octets.specs.quick.Words.{word, word_at}
 use Rattle.octets.specs.quick.Data.{top_bits, top_bits_at, data_run}
 use Rattle.octets.proofs.data_bytes.Runs.{run_more, run_ends}
@@ -97,7 +99,7 @@ seen_more l i all h e = split (ltb all 0x80) low high
         ∙ sym (lt-leb (i + 1) (data_run l) (omega (arith, leb-false i (data_run l) (sym e ∙ t))))
 
 -- the mask leaves of a word that was read its bytes' top bits
-pub tops_read : (l : List ℕ) (i w : ℕ) → ((k : ℕ) → get_or l k 0 < 256) → w ≡ word_at l i → bit_and w 0x8080_8080_8080_8080 ≡ top_bits_at l i
+tops_read : (l : List ℕ) (i w : ℕ) → ((k : ℕ) → get_or l k 0 < 256) → w ≡ word_at l i → bit_and w 0x8080_8080_8080_8080 ≡ top_bits_at l i
 tops_read l i w bytes e =
     ap (λ (x : ℕ). bit_and x 0x8080_8080_8080_8080) e
     ∙ tops_left _ _ _ _ _ _ _ _ (bytes i) (bytes (i + 1)) (bytes (i + 2)) (bytes (i + 3)) (bytes (i + 4)) (bytes (i + 5)) (bytes (i + 6)) (bytes (i + 7))
@@ -105,3 +107,37 @@ tops_read l i w bytes e =
 -- eight bytes whose word has no top bit have none
 pub no_tops : (l : List ℕ) (i w : ℕ) → ((k : ℕ) → get_or l k 0 < 256) → w ≡ word_at l i → bit_and w 0x8080_8080_8080_8080 ≡ 0 → top_bits_at l i ≡ 0
 no_tops l i w bytes e z = sym (tops_read l i w bytes e) ∙ z
+
+-- chunk w of a list's first n chunks of eight begins at byte 8 * w
+chunk_at : (l : List ℕ) (n w : ℕ) → w < n → get_or (first_chunks 8 n l) w [] ≡ take 8 (drop (w * 8) l)
+chunk_at l zero w h = absurd (omega arith)
+chunk_at l (suc n) zero h = refl
+chunk_at l (suc n) (suc w) h =
+    let place : 8 + w * 8 ≡ suc w * 8 = omega arith in
+    chunk_at (drop 8 l) n w (omega arith) ∙ ap (take 8) (drop-drop (w * 8) 8 l ∙ ap (λ (i : ℕ). drop i l) place)
+
+-- and is the word there
+chunk_word : (l : List ℕ) (n w : ℕ) → w < n → word_at (get_or (first_chunks 8 n l) w []) 0 ≡ word_at l (w * 8)
+chunk_word l n w h =
+    let start : w * 8 + 0 ≡ w * 8 = omega arith in
+    rw (
+      chunk_at l n w h,
+      byte 0 (omega arith),
+      byte 1 (omega arith),
+      byte 2 (omega arith),
+      byte 3 (omega arith),
+      byte 4 (omega arith),
+      byte 5 (omega arith),
+      byte 6 (omega arith),
+      byte 7 (omega arith),
+      start,
+    )
+  where
+    byte : (k : ℕ) → k < 8 → get_or (take 8 (drop (w * 8) l)) k 0 ≡ get_or l (w * 8 + k) 0
+    byte k small = get_or-take 8 (drop (w * 8) l) k 0 small ∙ get_or-drop (w * 8) l k 0
+
+-- a chunk with no top bit, right behind what was seen of the run, belongs to it
+pub chunk_more : (l : List ℕ) (n w x : ℕ) → ((k : ℕ) → get_or l k 0 < 256) → n * 8 ≤ length l → w < n
+    → x ≡ word_at (get_or (first_chunks 8 n l) w []) 0 → bit_and x 0x8080_8080_8080_8080 ≡ 0 → w * 8 ≤ data_run l → (w + 1) * 8 ≤ data_run l
+chunk_more l n w x bytes room h e none seen =
+    omega (arith, word_more l (w * 8) seen (omega arith) (no_tops l (w * 8) x bytes (e ∙ chunk_word l n w h) none))
