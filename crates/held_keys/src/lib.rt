@@ -4,7 +4,7 @@
 ghost use Rattle.std.specs.Prelude.{◌≡◌, ◌<◌};
 ghost use Rattle.refusal.specs.Outcome.{answered};
 ghost use Rattle.held_keys.specs.HeldKeys.{bit, effect_of, key_told, key_answer, count_on, first_held};
-ghost use Rattle.held_keys.specs.Record.{no_keys, record_after};
+ghost use Rattle.held_keys.specs.Record.{Shaped, no_keys, record_after};
 
 pub mod bytes;
 
@@ -48,21 +48,10 @@ fn bit_set(word: u64, at: usize) -> bool
     (word >> at) & 1 == 1
 }
 
-// The record after a message on a channel; as it was for a channel of 16 or more.
-pub fn applied(mut keys: HeldKeys, channel: Channel, message: ChannelMessage) -> HeldKeys
-    ensures { result ≡ record_after keys channel.0 message }
-{
-    if CHANNEL_COUNT <= channel.0 {
-        return keys;
-    }
-    let at = usize::from(channel.0);
-    match effect_of(message) {
-        Effect::Hold(key) => keys[at][usize::from(key / 64)] |= 1 << (key % 64),
-        Effect::Release(key) => keys[at][usize::from(key / 64)] &= !(1 << (key % 64)),
-        Effect::Nothing => {}
-    }
-    keys
-}
+// The shape that the type gives every record. It does nothing, and stands where a record is known by a reference alone, of which the checker does not say as much.
+fn shaped(keys: HeldKeys)
+    ensures { Shaped keys }
+{}
 
 // A message applied to the record where it lies. Refuses 17; then nothing is changed.
 pub fn apply(keys: &mut HeldKeys, channel: Channel, message: ChannelMessage) -> Result<(), Refusal>
@@ -71,8 +60,23 @@ pub fn apply(keys: &mut HeldKeys, channel: Channel, message: ChannelMessage) -> 
     if CHANNEL_COUNT <= channel.0 {
         return Err(Refusal::ChannelOutOfRange(channel.0));
     }
-    *keys = applied(*keys, channel, message);
+    shaped(*keys);
+    let held = &mut keys[usize::from(channel.0)];
+    match effect_of(message) {
+        Effect::Hold(key) => held[usize::from(key / 64)] |= 1 << (key % 64),
+        Effect::Release(key) => held[usize::from(key / 64)] &= !(1 << (key % 64)),
+        Effect::Nothing => {}
+    }
     Ok(())
+}
+
+// The record after a message on a channel; as it was for a channel of 16 or more.
+pub fn applied(mut keys: HeldKeys, channel: Channel, message: ChannelMessage) -> HeldKeys
+    ensures { result ≡ record_after keys channel.0 message }
+{
+    // A refusal, of a channel of 16 or more, changes nothing.
+    let _ = apply(&mut keys, channel, message);
+    keys
 }
 
 // How many keys are held on a channel. Refuses 17.
