@@ -7,6 +7,7 @@ ghost use Rattle.decoder.specs.Call.{reports};
 use crate::{Class, Decoder, MAX_SYSEX_LEN, Report, Stepped};
 use wire::{Channel, ChannelMessage, Realtime, SystemCommon};
 
+#[tactic(auto, unfolding(crate::specs::Step::class_of))]
 pub fn class_of(byte: u8) -> Class
     ensures { result ≡ class_of byte }
 {

@@ -60,6 +60,7 @@ impl OfByte for Channel {
 }
 
 // How many data bytes follow each of the 256 byte values; 0 for those that take none or are no status.
+#[tactic(auto, unfolding(crate::specs::Status::data_length))]
 pub fn data_len(status: u8) -> usize
     ensures { result ≡ data_length status }
 {
