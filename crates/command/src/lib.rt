@@ -76,6 +76,7 @@ pub struct Row {
     pub raw_len: usize,
 }
 
+// Rows that look alike stay written out: they are data, the paper's table.
 pub static COMMANDS: [Row; 22] = [
     Row {
         code: 0x00,

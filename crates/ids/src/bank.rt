@@ -20,6 +20,7 @@ impl OfByte for Bank {
 
     ghost byte_of = { λ x. x.0 };
 
+    // Refuses 9 with the byte.
     fn from_byte(byte: u8) -> Result<Bank, Refusal> {
         if byte < BANK_COUNT {
             Ok(Bank(byte))

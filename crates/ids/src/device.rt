@@ -31,6 +31,7 @@ impl OfByte for DeviceId {
 
     ghost byte_of = { device_byte };
 
+    // Refuses 5 with the byte.
     fn from_byte(byte: u8) -> Result<DeviceId, Refusal> {
         match byte {
             0..16 => Ok(DeviceId::Unit(byte)),

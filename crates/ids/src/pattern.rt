@@ -20,6 +20,7 @@ impl OfByte for PatternNumber {
 
     ghost byte_of = { λ x. x.0 };
 
+    // Refuses 11 with the byte.
     fn from_byte(byte: u8) -> Result<PatternNumber, Refusal> {
         if byte < USER_PATTERN_COUNT {
             Ok(PatternNumber(byte))

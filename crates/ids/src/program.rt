@@ -20,6 +20,7 @@ impl OfByte for ProgramNumber {
 
     ghost byte_of = { λ x. x.0 };
 
+    // Refuses 10 with the byte.
     fn from_byte(byte: u8) -> Result<ProgramNumber, Refusal> {
         if byte < PROGRAMS_PER_BANK {
             Ok(ProgramNumber(byte))

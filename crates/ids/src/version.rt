@@ -27,6 +27,7 @@ impl OfByte for ProtocolVersion {
 
     ghost byte_of = { λ x. x.0 };
 
+    // Refuses 8 with the byte.
     fn from_byte(byte: u8) -> Result<ProtocolVersion, Refusal> {
         match byte {
             6 | 7 => Ok(ProtocolVersion(byte)),
