@@ -48,7 +48,7 @@ fn bit_set(word: u64, at: usize) -> bool
     (word >> at) & 1 == 1
 }
 
-// The shape that the type gives every record. It does nothing, and stands where a record is known by a reference alone, of which the checker does not say as much.
+// The shape that the type gives every record, which the checker does not say of one behind a reference: `apply` calls it for its contract, and it does nothing.
 fn shaped(keys: HeldKeys)
     ensures { Shaped keys }
 {}
