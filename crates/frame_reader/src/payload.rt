@@ -1,6 +1,6 @@
 // Reads the payload of a frame: which run lengths are accepted, and the fields ahead of the run.
 ghost use Rattle.refusal.specs.Outcome.{answered};
-ghost use Rattle.std.specs.Prelude.{◌≡◌, true, false};
+ghost use Rattle.std.specs.Prelude.{◌≡◌, true, false, length};
 ghost use Rattle.command.specs.Command.{code_of};
 ghost use Rattle.refusal.specs.declared.Refusal.TheVariants as r;
 ghost use Rattle.message.specs.Prefix.{carries_run, fields_at};
@@ -41,89 +41,100 @@ fn early_len(command: Command) -> usize
     }
 }
 
-// The fields at the front of a payload.
-fn front(command: Command, payload: &[u8], numbered: bool) -> Fields
-    ensures { result ≡ fields_at command numbered payload.now }
-{
-    let bytes = [
-        octets::byte_at(payload, 0),
-        octets::byte_at(payload, 1),
-        octets::byte_at(payload, 2),
-        octets::byte_at(payload, 3),
-        octets::byte_at(payload, 4),
-    ];
-    message::prefix::fields_at(command, bytes, numbered)
+// A payload and the command that it stands behind.
+#[derive(Clone, Copy)]
+struct Payload<'a> {
+    command: Command,
+    bytes: &'a [u8],
 }
 
-// 7: a payload of another length than expected.
-fn wrong_length(command: Command, expected: usize, found: usize) -> Refusal
-    ensures { result ≡ r.PayloadLength (code_of command) expected found }
-{
-    Refusal::PayloadLength {
-        command: command.to_byte(),
-        expected,
-        found,
+impl Payload<'_> {
+    // The fields at its front.
+    fn fields(self, numbered: bool) -> Fields
+        ensures { result ≡ fields_at self.entry.command numbered self.entry.bytes.now }
+    {
+        let bytes = [
+            octets::byte_at(self.bytes, 0),
+            octets::byte_at(self.bytes, 1),
+            octets::byte_at(self.bytes, 2),
+            octets::byte_at(self.bytes, 3),
+            octets::byte_at(self.bytes, 4),
+        ];
+        message::prefix::fields_at(self.command, bytes, numbered)
     }
-}
 
-// A payload without a run: its length, 7, then its fields.
-fn read_short(command: Command, payload: &[u8]) -> Result<Fields, Refusal>
-    requires { carries_run command ≡ false }
-    ensures { answered result ≡ read_short command payload.now }
-{
-    let expected = command.row().prefix_len;
-    let found = payload.len();
-    if found != expected {
-        return Err(wrong_length(command, expected, found));
+    // 7: it has another length than expected.
+    fn wrong_length(self, expected: usize) -> Refusal
+        ensures { result ≡ r.PayloadLength (code_of self.entry.command) expected (length self.entry.bytes.now) }
+    {
+        Refusal::PayloadLength {
+            command: self.command.to_byte(),
+            expected,
+            found: self.bytes.len(),
+        }
     }
-    message::prefix::check_small(front(command, payload, false))
-}
 
-// A dump behind its version: further prefix 7, run length 7 or 13, then the other fields.
-fn read_run(command: Command, version: ProtocolVersion, payload: &[u8]) -> Result<Fields, Refusal>
-    requires { version_in payload.now ≡ true }
-    ensures { answered result ≡ read_run command version.0 payload.now }
-{
-    let prefix = command.row().prefix_len;
-    let found = payload.len();
-    if found < prefix {
-        return Err(wrong_length(command, prefix, found));
+    // Without a run: its length, 7, then its fields.
+    fn read_short(self) -> Result<Fields, Refusal>
+        requires { carries_run self.command ≡ false }
+        ensures { answered result ≡ read_short self.entry.command self.entry.bytes.now }
+    {
+        let expected = self.command.row().prefix_len;
+        if self.bytes.len() != expected {
+            return Err(self.wrong_length(expected));
+        }
+        message::prefix::check_small(self.fields(false))
     }
-    let run_len = found - prefix;
-    if command == Command::CalibrationDataDumpResponse {
-        packed::unpacked_len(run_len)?;
-        return message::prefix::check_small(front(command, payload, false));
-    }
-    let raw_len = command::raw_len(command, version);
-    if holds(run_len, raw_len) {
-        return message::prefix::check_small(front(command, payload, false));
-    }
-    if command == Command::UserPatternDumpResponse && is_numbered(found) {
-        return message::prefix::check_small(front(command, payload, true));
-    }
-    let expected = prefix + packed::PACKED_GROUP * ((raw_len + 6) / packed::RAW_GROUP);
-    Err(wrong_length(command, expected, found))
-}
 
-// A payload with a run: version missing 7, version 8, then the rest.
-fn read_dump(command: Command, payload: &[u8]) -> Result<Fields, Refusal>
-    ensures { answered result ≡ read_dump command payload.now }
-{
-    let found = payload.len();
-    if found < early_len(command) {
-        return Err(wrong_length(command, command.row().prefix_len, found));
+    // Behind its version: further prefix 7, run length 7 or 13, then the other fields.
+    fn read_run(self, version: ProtocolVersion) -> Result<Fields, Refusal>
+        requires { version_in self.bytes.now ≡ true }
+        ensures { answered result ≡ read_run self.entry.command version.0 self.entry.bytes.now }
+    {
+        let prefix = self.command.row().prefix_len;
+        let found = self.bytes.len();
+        if found < prefix {
+            return Err(self.wrong_length(prefix));
+        }
+        let run_len = found - prefix;
+        if self.command == Command::CalibrationDataDumpResponse {
+            packed::unpacked_len(run_len)?;
+            return message::prefix::check_small(self.fields(false));
+        }
+        let raw_len = command::raw_len(self.command, version);
+        if holds(run_len, raw_len) {
+            return message::prefix::check_small(self.fields(false));
+        }
+        if self.command == Command::UserPatternDumpResponse && is_numbered(found) {
+            return message::prefix::check_small(self.fields(true));
+        }
+        let expected = prefix + packed::PACKED_GROUP * ((raw_len + 6) / packed::RAW_GROUP);
+        Err(self.wrong_length(expected))
     }
-    let version = ProtocolVersion::from_byte(payload[0])?;
-    read_run(command, version, payload)
+
+    // With a run: version missing 7, version 8, then the rest.
+    fn read_dump(self) -> Result<Fields, Refusal>
+        ensures { answered result ≡ read_dump self.entry.command self.entry.bytes.now }
+    {
+        if self.bytes.len() < early_len(self.command) {
+            return Err(self.wrong_length(self.command.row().prefix_len));
+        }
+        let version = ProtocolVersion::from_byte(self.bytes[0])?;
+        self.read_run(version)
+    }
 }
 
 // A payload as its command describes it: a dump or a short one.
 pub fn read_payload(command: Command, payload: &[u8]) -> Result<Fields, Refusal>
     ensures { answered result ≡ read_payload command payload.now }
 {
+    let of_command = Payload {
+        command,
+        bytes: payload,
+    };
     if command.carries_run() {
-        read_dump(command, payload)
+        of_command.read_dump()
     } else {
-        read_short(command, payload)
+        of_command.read_short()
     }
 }
