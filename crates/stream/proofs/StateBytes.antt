@@ -83,10 +83,6 @@ state_read_back d h = go d.in_sysex d.status
     go false None = ap (λ (n : ℕ). record { in_sysex = false; len = n; status = None; have = d.have; data0 = d.data0; data1 = d.data1 }) digits
     go false (Some x) = ap (λ (n : ℕ). record { in_sysex = false; len = n; status = Some x; have = d.have; data0 = d.data0; data1 = d.data1 }) digits
 
--- bytes that are a state's are fourteen
-pub state_is_long : (bytes : List ℕ) → is_state bytes ≡ true → length bytes ≡ 14
-state_is_long bytes h = eqb-true (length bytes) 14 (both (eqb (length bytes) 14) _ h).0
-
 -- fourteen bytes one by one
 pub fourteen : (l : List ℕ) → length l ≡ 14
     → l ≡ get_or l 0 0 ∷ get_or l 1 0 ∷ get_or l 2 0 ∷ get_or l 3 0 ∷ get_or l 4 0 ∷ get_or l 5 0 ∷ get_or l 6 0 ∷ get_or l 7 0 ∷ get_or l 8 0 ∷ get_or l 9 0 ∷ get_or l 10 0 ∷ get_or l 11 0 ∷ get_or l 12 0
