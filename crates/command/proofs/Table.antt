@@ -9,7 +9,7 @@ use lib.ListN.{get_or}
 use borrow.Author.Tests.{eqb-true, ne_eqb}
 use Rattle.laws.specs.Choice.{pick}
 use Rattle.laws.proofs.Rising.{rises}
-use Rattle.laws.proofs.Tests.{both, alike, alike_same, true_is_not_false}
+use Rattle.laws.proofs.Tests.{both, true_is_not_false}
 use Rattle.refusal.specs.Outcome.{gives, refused}
 use Rattle.refusal.proofs.Given.{given_not_refused}
 use Rattle.refusal.proofs.Numbered.{numbered}
@@ -54,20 +54,33 @@ abbrev pub of_each : (Command → Bool) → List Command → Bool
 of_each test [] = true
 of_each test (j ∷ js) = test j && of_each test js
 
--- a command that was read from some has passed a test that all of these pass
-read_tested : (test : Command → Bool) (ks : List Command) (b : ℕ) (k : Command) → of_each test ks ≡ true → among ks b ≡ gives k → test k ≡ true
-read_tested test [] b k h e = absurd (given_not_refused k 6 (b ∷ []) e)
-read_tested test (j ∷ js) b k h e = go (eqb b (code_of j)) (read_tested test js b k (both (test j) (of_each test js) h).1) e
+-- two functions that agree at each of some commands agree at one that was read from these
+read_same : {A : Type 0} (f g : Command → A) (ks : List Command) (b : ℕ) (k : Command) → map f ks ≡ map g ks → among ks b ≡ gives k → f k ≡ g k
+read_same f g [] b k h e = absurd (given_not_refused k 6 (b ∷ []) e)
+read_same f g (j ∷ js) b k h e =
+    let here : f j ≡ g j = cc in
+    let rest : map f js ≡ map g js = cc in
+    go (eqb b (code_of j)) here (read_same f g js b k rest) e
   where
-    go : (t : Bool) → (among js b ≡ gives k → test k ≡ true) → pick t (gives j) (among js b) ≡ gives k → test k ≡ true
-    go true rest g =
+    go : (t : Bool) → f j ≡ g j → (among js b ≡ gives k → f k ≡ g k) → pick t (gives j) (among js b) ≡ gives k → f k ≡ g k
+    go true here rest e =
         let same : j ≡ k = cc in
-        ap test (sym same) ∙ (both (test j) (of_each test js) h).0
-    go false rest g = rest g
+        rw same at here
+    go false here rest e = rest e
 
--- a test that was computed over the whole list holds of every command, since each is read from its code
+-- two functions that agree over the whole list agree at every command, since each is read from its code
+pub same_at_every : {A : Type 0} (f g : Command → A) → map f commands ≡ map g commands → (k : Command) → f k ≡ g k
+same_at_every f g h k = read_same f g commands (code_of k) k h (code_reads_back k)
+
+each_true : (test : Command → Bool) (ks : List Command) → of_each test ks ≡ true → map test ks ≡ map (λ j. true) ks
+each_true test [] h = refl
+each_true test (j ∷ js) h =
+    let told = both (test j) (of_each test js) h in
+    rw (told.0, each_true test js told.1)
+
+-- a test that was computed over the whole list holds of every command
 pub of_every : (test : Command → Bool) → of_each test commands ≡ true → (k : Command) → test k ≡ true
-of_every test h k = read_tested test commands (code_of k) k h (code_reads_back k)
+of_every test h k = same_at_every test (λ j. true) (each_true test commands h) k
 
 -- two rows with the same numbers, as a test
 abbrev same_row : Row → Row → Bool
@@ -132,5 +145,5 @@ table_length_lem any v h = refl
 pub table_decides : (k : Command) (v : ℕ) → (code_of k ≡ 0x02 → ⊥) → (code_of k ≡ 0x04 → ⊥) → table_length (payload_of k).run ≡ raw_length_for k v
 table_decides k v p e =
     let two : Command → Bool = λ j. eqb (code_of j) 0x02 || eqb (code_of j) 0x04 in
-    let told = alike_same (versioned (payload_of k).run) (two k) (of_every (λ j. alike (versioned (payload_of j).run) (two j)) refl k) in
+    let told = same_at_every (λ j. versioned (payload_of j).run) two refl k in
     table_length_lem (payload_of k).run v (told ∙ rw (ne_eqb (code_of k) 0x02 p, ne_eqb (code_of k) 0x04 e))

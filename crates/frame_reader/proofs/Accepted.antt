@@ -9,7 +9,7 @@ use lib.Dec.{leb, eqb}
 use lib.ListN.{length, get_or, take, drop}
 use borrow.Author.Tests.{leb-true, eqb-true}
 use Rattle.laws.specs.Choice.{pick}
-use Rattle.laws.proofs.Tests.{both, alike, alike_same}
+use Rattle.laws.proofs.Tests.{both}
 use Rattle.refusal.specs.Outcome.{Outcome, gives, unless}
 use Rattle.refusal.proofs.Given.{passed, passed_on, given_first}
 use Rattle.ids.specs.Device.{device_of}
@@ -17,7 +17,7 @@ use Rattle.command.specs.declared.Command.{Command}
 use Rattle.command.specs.Command.{code_of, command_of}
 use Rattle.command.specs.Payload as y
 use Rattle.command.specs.Payload.{Field, payload_of, raw_length_for}
-use Rattle.command.proofs.Table.{of_every}
+use Rattle.command.proofs.Table.{same_at_every}
 use Rattle.packed.specs.Packed.{packed_length}
 use Rattle.framing.specs.Framing.{framed, body, first_high, when_seven_bit, same_bytes}
 use Rattle.framing.proofs.Bytes.{same_is, no_high}
@@ -66,7 +66,7 @@ pub record Tested (bytes : List ℕ) (r : Record) : Type 0 where
 
 -- a payload without a run has no pattern number that could be missing
 pub no_option : (c : Command) → carries_run c ≡ false → optional c ≡ false
-no_option c h = sym (rw h at (alike_same (carries_run c && optional c) (optional c) (of_every (λ j. alike (carries_run j && optional j) (optional j)) refl c)))
+no_option c h = sym (rw h at (same_at_every (λ j. carries_run j && optional j) optional refl c))
 
 run_given : (c : Command) (v : ℕ) (p : List ℕ) (next : Outcome Fields) (f : Fields) → when_run c v p next ≡ gives f
     →

@@ -15,7 +15,7 @@ use Rattle.ids.specs.Device.{device_byte, device_in_range}
 use Rattle.command.specs.declared.Command.{Command}
 use Rattle.command.specs.declared.Command.TheVariants as k
 use Rattle.command.specs.Payload as y
-use Rattle.command.proofs.Table.{code_reads_back}
+use Rattle.command.proofs.Table.{code_reads_back, same_at_every}
 use Rattle.message.specs.declared.fields.Fields.{Fields}
 use Rattle.message.specs.declared.head.Frame.{Frame}
 use Rattle.ids.specs.Interface.{interface_at, interface_byte}
@@ -32,28 +32,7 @@ use Rattle.frames.proofs.BodyLow.{written_row}
 
 -- the command of a message that was made for a command
 command_back : (c : Command) (f : Fields) → command_of_head (head_from c f) ≡ c
-command_back k.ControlAppNotifyRequest f = refl
-command_back k.ProgramDumpRequest f = refl
-command_back k.ProgramDumpResponse f = refl
-command_back k.EditBufferDumpRequest f = refl
-command_back k.EditBufferDumpResponse f = refl
-command_back k.GlobalParameterDumpRequest f = refl
-command_back k.GlobalParameterDumpResponse f = refl
-command_back k.SingleUserPatternDumpRequest f = refl
-command_back k.UserPatternDumpResponse f = refl
-command_back k.ProgramBankDumpRequest f = refl
-command_back k.BankProgramNamesDumpRequest f = refl
-command_back k.BankProgramNamesDumpResponse f = refl
-command_back k.SingleProgramNameDumpRequest f = refl
-command_back k.SingleProgramNameDumpResponse f = refl
-command_back k.EditBufferPatternDumpRequest f = refl
-command_back k.ControlAppNotifyResponse f = refl
-command_back k.CalibrationDataDumpRequest f = refl
-command_back k.CalibrationDataDumpResponse f = refl
-command_back k.ChordMemoryDumpRequest f = refl
-command_back k.ChordMemoryDumpResponse f = refl
-command_back k.PolyChordMemoryDumpRequest f = refl
-command_back k.PolyChordMemoryDumpResponse f = refl
+command_back c f = same_at_every (λ j. command_of_head (head_from j f)) (λ j. j) refl c
 
 interface_back : (b : ℕ) → b < 3 → interface_byte (interface_at b) ≡ b
 interface_back zero h = refl

@@ -17,11 +17,10 @@ use Rattle.refusal.specs.Outcome.{gives}
 use Rattle.ids.specs.Device.{device_byte, device_in_range}
 use Rattle.ids.proofs.device.Range.{device_in_range_lem}
 use Rattle.command.specs.declared.Command.{Command}
-use Rattle.command.specs.declared.Command.TheVariants as k
 use Rattle.command.specs.Command.{code_of, commands}
 use Rattle.command.specs.Payload.{Field}
 use Rattle.command.specs.Laws.{read_code}
-use Rattle.command.proofs.Table.{code_reads_back}
+use Rattle.command.proofs.Table.{code_reads_back, same_at_every}
 use Rattle.framing.specs.Framing.{body, first_high}
 use Rattle.framing.proofs.Bytes.{spelled, high_none_behind}
 use Rattle.message.specs.declared.fields.Fields.{Fields}
@@ -38,31 +37,17 @@ front_spelled : (p : List ℕ) (n : ℕ) → n ≤ length p → take n p ≡ tab
 front_spelled p n h =
     spelled (take n p) n (length-take-le n p h) ∙ tab_same (λ i. get_or (take n p) i 0) (λ i. get_or p i 0) n (λ i b. get_or-take n p i 0 b)
 
+-- a payload's fields as they are written, and as many bytes as it has of them
+abbrev wire_of : Bool → List ℕ → Command → List ℕ
+wire_of b p c = wire true (field_list c b) (fields_at c b p)
+
+abbrev front_of : Bool → List ℕ → Command → List ℕ
+front_of b p c = tab (λ i. get_or p i 0) (length (field_list c b))
+
 -- fields that were read from bytes are written as these bytes
-wire_back : (c : Command) (b : Bool) (p : List ℕ) → wire true (field_list c b) (fields_at c b p) ≡ tab (λ i. get_or p i 0) (length (field_list c b))
-wire_back k.ControlAppNotifyRequest b p = refl
-wire_back k.ProgramDumpRequest b p = refl
-wire_back k.ProgramDumpResponse b p = refl
-wire_back k.EditBufferDumpRequest b p = refl
-wire_back k.EditBufferDumpResponse b p = refl
-wire_back k.GlobalParameterDumpRequest b p = refl
-wire_back k.GlobalParameterDumpResponse b p = refl
-wire_back k.SingleUserPatternDumpRequest b p = refl
-wire_back k.UserPatternDumpResponse true p = refl
-wire_back k.UserPatternDumpResponse false p = refl
-wire_back k.ProgramBankDumpRequest b p = refl
-wire_back k.BankProgramNamesDumpRequest b p = refl
-wire_back k.BankProgramNamesDumpResponse b p = refl
-wire_back k.SingleProgramNameDumpRequest b p = refl
-wire_back k.SingleProgramNameDumpResponse b p = refl
-wire_back k.EditBufferPatternDumpRequest b p = refl
-wire_back k.ControlAppNotifyResponse b p = refl
-wire_back k.CalibrationDataDumpRequest b p = refl
-wire_back k.CalibrationDataDumpResponse b p = refl
-wire_back k.ChordMemoryDumpRequest b p = refl
-wire_back k.ChordMemoryDumpResponse b p = refl
-wire_back k.PolyChordMemoryDumpRequest b p = refl
-wire_back k.PolyChordMemoryDumpResponse b p = refl
+wire_back : (c : Command) (b : Bool) (p : List ℕ) → wire_of b p c ≡ front_of b p c
+wire_back c true p = same_at_every (wire_of true p) (front_of true p) refl c
+wire_back c false p = same_at_every (wire_of false p) (front_of false p) refl c
 
 -- a command without a run has no number to count
 exact_list : (c : Command) (b : Bool) → carries_run c ≡ false → length (field_list c b) ≡ prefix_length c

@@ -8,14 +8,14 @@ use lib.Dec.{eqb}
 use lib.ListN.{length}
 use borrow.Author.Tests.{le-leb, lt-leb, eq-eqb, ne_eqb, eqb-true}
 use Rattle.laws.specs.Choice.{pick}
-use Rattle.laws.proofs.Tests.{split, alike, alike_same}
+use Rattle.laws.proofs.Tests.{split}
 use Rattle.refusal.specs.Outcome.{refused, unless}
 use Rattle.command.specs.declared.Command.{Command}
 use Rattle.command.specs.declared.Command.TheVariants as k
 use Rattle.command.specs.Command.{code_of}
 use Rattle.command.specs.Payload as y
-use Rattle.command.specs.Payload.{Run, payload_of, run_length, raw_length_for}
-use Rattle.command.proofs.Table.{same_code, of_every}
+use Rattle.command.specs.Payload.{payload_of, raw_length_for}
+use Rattle.command.proofs.Table.{same_code, same_at_every}
 use Rattle.packed.specs.Packed.{packed_length}
 use Rattle.message.specs.Prefix.{carries_run, optional, fields_at, field_ok}
 use Rattle.message.specs.quick.Prefix.{small_checked}
@@ -55,7 +55,7 @@ numbered_off c v p h = split (optional c) (λ e. at_pattern (sym (optional_is c 
 
 -- a run of any length is the calibration's
 any_is : (c : Command) → is_any (payload_of c).run ≡ eqb (code_of c) 0x12
-any_is c = alike_same (is_any (payload_of c).run) (eqb (code_of c) 0x12) (of_every (λ j. alike (is_any (payload_of j).run) (eqb (code_of j) 0x12)) refl c)
+any_is c = same_at_every (λ j. is_any (payload_of j).run) (λ j. eqb (code_of j) 0x12) refl c
 
 unnumbered : (c : Command) (b : Bool) (p : List ℕ) → code_of c ≡ 0x12 → read_fields c b p ≡ read_fields c false p
 unnumbered c b p h = rw h

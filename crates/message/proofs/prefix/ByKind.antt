@@ -9,12 +9,11 @@ use lib.Dec.{eqb}
 use lib.ListN.{length, get_or, drop}
 use Rattle.laws.specs.Choice.{pick}
 use Rattle.laws.proofs.Tests.{true_is_not_false}
-use Rattle.refusal.specs.Outcome.{gives}
+use Rattle.refusal.specs.Outcome.{Outcome, gives}
 use Rattle.command.specs.declared.Command.{Command}
-use Rattle.command.specs.declared.Command.TheVariants as k
 use Rattle.command.specs.Payload as y
 use Rattle.command.specs.Payload.{Field}
-use Rattle.command.proofs.Table.{of_every}
+use Rattle.command.proofs.Table.{of_every, same_at_every}
 use Rattle.message.specs.declared.fields.Fields.{Fields}
 use Rattle.message.specs.Prefix.{tag, value_of, second_of, field_list, fields_in, fields_at, carries_run, checked, field_ok, wire}
 use Rattle.message.specs.quick.Prefix.{small_checked}
@@ -90,30 +89,17 @@ version_leads_lem k false h = leading (field_list k false) (rw h at (of_every (�
 pub version_first : (k : Command) (b : Bool) (p : List ℕ) → carries_run k ≡ true → (fields_at k b p).version ≡ get_or p 0 0
 version_first k b p h = rw (version_leads_lem k b h)
 
--- fields in wire order, and by kind
+-- a command's fields tested in wire order, and by kind
+abbrev in_order : Bool → List ℕ → Command → Outcome Fields
+in_order b p k = checked (field_list k b) p 0 (gives (fields_at k b p))
+
+abbrev by_kind : Bool → List ℕ → Command → Outcome Fields
+by_kind b p k =
+    pick (carries_run k) (field_ok y.version (fields_at k b p).version (small_checked (fields_at k b p))) (small_checked (fields_at k b p))
+
+-- both orders give the same
 pub checked_by_kind : (k : Command) (b : Bool) (p : List ℕ)
     → checked (field_list k b) p 0 (gives (fields_at k b p))
     ≡ pick (carries_run k) (field_ok y.version (fields_at k b p).version (small_checked (fields_at k b p))) (small_checked (fields_at k b p))
-checked_by_kind k.ControlAppNotifyRequest b p = refl
-checked_by_kind k.ProgramDumpRequest b p = refl
-checked_by_kind k.ProgramDumpResponse b p = refl
-checked_by_kind k.EditBufferDumpRequest b p = refl
-checked_by_kind k.EditBufferDumpResponse b p = refl
-checked_by_kind k.GlobalParameterDumpRequest b p = refl
-checked_by_kind k.GlobalParameterDumpResponse b p = refl
-checked_by_kind k.SingleUserPatternDumpRequest b p = refl
-checked_by_kind k.UserPatternDumpResponse true p = refl
-checked_by_kind k.UserPatternDumpResponse false p = refl
-checked_by_kind k.ProgramBankDumpRequest b p = refl
-checked_by_kind k.BankProgramNamesDumpRequest b p = refl
-checked_by_kind k.BankProgramNamesDumpResponse b p = refl
-checked_by_kind k.SingleProgramNameDumpRequest b p = refl
-checked_by_kind k.SingleProgramNameDumpResponse b p = refl
-checked_by_kind k.EditBufferPatternDumpRequest b p = refl
-checked_by_kind k.ControlAppNotifyResponse b p = refl
-checked_by_kind k.CalibrationDataDumpRequest b p = refl
-checked_by_kind k.CalibrationDataDumpResponse b p = refl
-checked_by_kind k.ChordMemoryDumpRequest b p = refl
-checked_by_kind k.ChordMemoryDumpResponse b p = refl
-checked_by_kind k.PolyChordMemoryDumpRequest b p = refl
-checked_by_kind k.PolyChordMemoryDumpResponse b p = refl
+checked_by_kind k true p = same_at_every (in_order true p) (by_kind true p) refl k
+checked_by_kind k false p = same_at_every (in_order false p) (by_kind false p) refl k
