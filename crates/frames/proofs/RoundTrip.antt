@@ -81,9 +81,6 @@ module _ (bytes : List ℕ) (r : Record) (d : Tested bytes r) where
   pub run_back : own_run r.command (run_in r bytes) ≡ drop n p
   run_back = go (carries_run r.command) refl
     where
-      rest : List ℕ
-      rest = drop (length (field_list r.command r.fields.has_pattern)) (payload bytes)
-
       go : (t : Bool) → carries_run r.command ≡ t → pick t
           (pick t (drop (length (field_list r.command r.fields.has_pattern)) (payload bytes)) []) [] ≡ drop
           (length (field_list r.command r.fields.has_pattern)) (payload bytes)
