@@ -4,7 +4,7 @@
 ghost use Rattle.std.specs.Prelude.{◌≡◌, ◌<◌};
 ghost use Rattle.refusal.specs.Outcome.{answered};
 ghost use Rattle.held_keys.specs.HeldKeys.{bit, effect_of, key_told, key_answer, count_on, first_held};
-ghost use Rattle.held_keys.specs.Record.{Shaped, no_keys, record_after};
+ghost use Rattle.held_keys.specs.Record.{no_keys, record_after};
 
 pub mod bytes;
 
@@ -48,10 +48,18 @@ fn bit_set(word: u64, at: usize) -> bool
     (word >> at) & 1 == 1
 }
 
-// The shape that the type gives every record, which the checker does not say of one behind a reference: `apply` calls it for its contract, and it does nothing.
-fn shaped(keys: HeldKeys)
-    ensures { Shaped keys }
-{}
+// The record after a message on a channel that there is.
+fn changed(mut keys: HeldKeys, at: usize, message: ChannelMessage) -> HeldKeys
+    requires { at < 16 }
+    ensures { result ≡ record_after keys at message }
+{
+    match effect_of(message) {
+        Effect::Hold(key) => keys[at][usize::from(key / 64)] |= 1 << (key % 64),
+        Effect::Release(key) => keys[at][usize::from(key / 64)] &= !(1 << (key % 64)),
+        Effect::Nothing => {}
+    }
+    keys
+}
 
 // A message applied to the record where it lies. Refuses 17; then nothing is changed.
 pub fn apply(keys: &mut HeldKeys, channel: Channel, message: ChannelMessage) -> Result<(), Refusal>
@@ -60,13 +68,7 @@ pub fn apply(keys: &mut HeldKeys, channel: Channel, message: ChannelMessage) -> 
     if CHANNEL_COUNT <= channel.0 {
         return Err(Refusal::ChannelOutOfRange(channel.0));
     }
-    shaped(*keys);
-    let held = &mut keys[usize::from(channel.0)];
-    match effect_of(message) {
-        Effect::Hold(key) => held[usize::from(key / 64)] |= 1 << (key % 64),
-        Effect::Release(key) => held[usize::from(key / 64)] &= !(1 << (key % 64)),
-        Effect::Nothing => {}
-    }
+    *keys = changed(*keys, usize::from(channel.0), message);
     Ok(())
 }
 
@@ -74,7 +76,7 @@ pub fn apply(keys: &mut HeldKeys, channel: Channel, message: ChannelMessage) -> 
 pub fn applied(mut keys: HeldKeys, channel: Channel, message: ChannelMessage) -> HeldKeys
     ensures { result ≡ record_after keys channel.0 message }
 {
-    // A refusal, of a channel of 16 or more, changes nothing.
+    // A refusal changes nothing.
     let _ = apply(&mut keys, channel, message);
     keys
 }
