@@ -26,9 +26,9 @@ use Rattle.stream.proofs.StateBytes.{written_back, status_back}
 use Rattle.stream.proofs.Tests.{limit_small}
 
 -- what a refused call and one that walks come to
-pub refused_so : (state later store bytes : List ℕ) (r : FedAnswer) → later ≡ state → feed_call state store bytes ≡ refused 20 [] → r ≡ refused_feed 20
-    → StreamFed (feed_call state store bytes) r state later store store
-refused_so state later store bytes r same e t = rw e (record { answers = t; keeps = same; leaves = refl })
+pub refused_so : (state later store left bytes : List ℕ) (r : FedAnswer) → later ≡ state → left ≡ store → feed_call state store bytes ≡ refused 20 []
+    → r ≡ refused_feed 20 → StreamFed (feed_call state store bytes) r state later store left
+refused_so state later store left bytes r p q e t = rw e (record { answers = t; keeps = p; leaves = q })
 
 pub walked_so : (state store bytes : List ℕ) (w : Walked) (r : FedAnswer) (later left : List ℕ) → feed_call state store bytes ≡ gives w → Numbered w r later left
     → StreamFed (feed_call state store bytes) r state later store left
@@ -36,6 +36,13 @@ walked_so state store bytes w r later left e n = rw e (record { answers = n.told
 
 pub short_store : (state store bytes : List ℕ) → length store < limit → feed_call state store bytes ≡ refused 20 []
 short_store state store bytes h = split (is_state state) (λ t. rw t (short_refused (state_of state) store bytes h)) (λ t. rw t)
+
+pub long_state : (state store bytes : List ℕ) → (length state ≡ 14 → ⊥) → feed_call state store bytes ≡ refused 20 []
+long_state state store bytes h = rw (ne_eqb (length state) 14 h)
+
+-- the front of a store and the rest behind it are the store
+pub front_back : (store front : List ℕ) (n : ℕ) → front ≡ take n store → front ++ drop n store ≡ store
+front_back store front n is = ap (λ (l : List ℕ). l ++ drop n store) is ∙ take-append-drop n store
 
 -- a call on the front of a store is the call on the store, with the rest as it was
 pub fed_front : (state store front bytes : List ℕ) (n : ℕ) → limit ≤ n → n ≤ length store → front ≡ take n store → (r : FedAnswer) (later left : List ℕ)
@@ -46,14 +53,11 @@ fed_front state store front bytes n enough long is r later left f =
     (λ u. stays (rw t (unsound_refused (state_of state) front bytes u)) (rw t (unsound_refused (state_of state) store bytes u))))
     (λ t. stays (rw t) (rw t))
   where
-    back : front ++ drop n store ≡ store
-    back = ap (λ (l : List ℕ). l ++ drop n store) is ∙ take-append-drop n store
-
     stays : feed_call state front bytes ≡ refused 20 [] → feed_call state store bytes ≡ refused 20 []
         → StreamFed (feed_call state store bytes) r state later store (left ++ drop n store)
     stays p q =
         let g : StreamFed (refused 20 []) r state later front left = subst (λ (o : Outcome Walked). StreamFed o r state later front left) p f in
-        rw q (record { answers = g.answers; keeps = g.keeps; leaves = ap (λ (l : List ℕ). l ++ drop n store) g.leaves ∙ back })
+        rw q (record { answers = g.answers; keeps = g.keeps; leaves = ap (λ (l : List ℕ). l ++ drop n store) g.leaves ∙ front_back store front n is })
 
     walks : is_state state ≡ true → sound (state_of state) ≡ true → StreamFed (feed_call state store bytes) r state later store (left ++ drop n store)
     walks t u =

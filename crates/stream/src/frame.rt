@@ -74,16 +74,16 @@ fn ends(
     }
     numbers::put_closed(state);
     match byte {
+        0xF7 if at < MAX_SYSEX_LEN => {
+            store[at] = byte;
+            answer::frame(at + 1, used)
+        }
         0x80..0xF4 => {
             numbers::put_middle(numbers::held(byte), state);
             answer::interrupted(used)
         }
         0xF4..0xF6 => answer::interrupted(used),
         0xF6 => answer::interrupted_by_tune(used),
-        _ if at < MAX_SYSEX_LEN => {
-            store[at] = byte;
-            answer::frame(at + 1, used)
-        }
         _ => answer::too_long(used),
     }
 }

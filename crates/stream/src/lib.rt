@@ -66,10 +66,10 @@ fn feed_lent(
 pub fn feed(state: &mut [u8], store: &mut [u8], bytes: &[u8]) -> FedAnswer
     ensures { StreamFed (feed_call state.old store.old bytes.now) result state.old state.new store.old store.new }
 {
-    let Some(state) = state.as_mut_array() else {
+    let Some(store) = store.first_chunk_mut() else {
         return answer::refused();
     };
-    let Some(store) = store.first_chunk_mut() else {
+    let Some(state) = state.as_mut_array() else {
         return answer::refused();
     };
     feed_lent(state, store, bytes)

@@ -11,7 +11,7 @@ use Rattle.stream.proofs.feed_lent.Goals as goal
 pub returns-then-not-takes : goal.returns-then-not-takes
 returns-then-not-takes c =
     let a = c.args in
-    refused_so a.state.now _ a.store.now a.bytes.now _ refl
+    refused_so a.state.now _ a.store.now _ a.bytes.now _ refl refl
     (untaken_refused a.state.now c.told-state c.fits-state a.store.now a.bytes.now
     (rw (c.four_at-front.ensures, c.four_at-above.ensures, c.four_at-middle.ensures) at (sym c.takes.ensures ∙ c.if-not-takes.true)))
     c.refused.ensures
