@@ -1,5 +1,5 @@
 -- A device at the boundary: everyone (0 or 1) and the unit, since a hand-made unit 7F is not everyone.
-use Rattle.std.specs.Prelude.{ℕ, eqb}
+use Rattle.std.specs.Prelude.{ℕ, eqb, leb, None, Option, Some}
 use Rattle.laws.specs.Choice.{pick}
 use Rattle.ids.specs.declared.device.DeviceId.{DeviceId}
 use Rattle.ids.specs.declared.device.DeviceId.TheVariants as d
@@ -8,6 +8,10 @@ use Rattle.ids.specs.declared.device.DeviceId.TheVariants as d
 -- not
 abbrev pub device_from : ℕ → ℕ → DeviceId
 device_from everyone unit = pick (eqb everyone 0) (d.Unit unit) d.Broadcast
+
+-- none for everyone above 1, which no record has
+abbrev pub device_named : ℕ → ℕ → Option DeviceId
+device_named everyone unit = pick (leb everyone 1) (Some (device_from everyone unit)) None
 
 -- the first number of a device: 1 for everyone, 0 for a unit
 abbrev pub everyone_of : DeviceId → ℕ

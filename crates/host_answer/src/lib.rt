@@ -4,7 +4,7 @@
 ghost use Rattle.std.specs.Prelude.{◌≡◌};
 ghost use Rattle.refusal.specs.Outcome.{gives, and_then, answered, refusal};
 ghost use Rattle.host_answer.specs.Answer.{answer_of, no_record};
-ghost use Rattle.host_answer.specs.Device.{device_from, everyone_of, unit_of};
+ghost use Rattle.host_answer.specs.Device.{device_from, device_named, everyone_of, unit_of};
 
 use ids::DeviceId;
 use refusal::{OfByte, Refusal};
@@ -97,6 +97,16 @@ pub fn device_of(everyone: u8, unit: u8) -> DeviceId
         return DeviceId::Unit(unit);
     }
     DeviceId::Broadcast
+}
+
+// The same, and none for everyone above 1, which no record has.
+pub fn device_named(everyone: u8, unit: u8) -> Option<DeviceId>
+    ensures { result ≡ device_named everyone unit }
+{
+    if 1 < everyone {
+        return None;
+    }
+    Some(device_of(everyone, unit))
 }
 
 // Whether a device is everyone, as a number.

@@ -169,13 +169,12 @@ pub fn dm_frame_write(
 ) -> Answer
     ensures { FrameSent everyone unit command has_pattern (fields_from free version bank program last pattern has_pattern interface rx tx) run.now result out.old out.new }
 {
-    if 1 < everyone {
+    let Some(device) = host_answer::device_named(everyone, unit) else {
         return host_answer::no_record();
-    }
+    };
     if !pattern_flag_fits(command, has_pattern) {
         return host_answer::no_record();
     }
-    let device = host_answer::device_of(everyone, unit);
     let fields = Fields {
         free,
         version,

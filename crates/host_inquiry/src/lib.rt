@@ -96,10 +96,10 @@ pub fn dm_reply_read(bytes: &[u8]) -> ReplyAnswer
 pub fn dm_request_write(everyone: u8, unit: u8, out: &mut [u8]) -> Answer
     ensures { RequestSent everyone unit result out.old out.new }
 {
-    if 1 < everyone {
+    let Some(device) = host_answer::device_named(everyone, unit) else {
         return host_answer::no_record();
-    }
-    Answer::from(inquiry::request::request_into(host_answer::device_of(everyone, unit), out))
+    };
+    Answer::from(inquiry::request::request_into(device, out))
 }
 
 // Writes a reply. NO_RECORD for everyone above 1; then refuses 5, 14.
@@ -114,11 +114,11 @@ pub fn dm_reply_write(
 ) -> Answer
     ensures { SendsIf (leb everyone 1) (reply_write (identity_from everyone unit major minor voice_major voice_minor) (length out.old)) result out.old out.new }
 {
-    if 1 < everyone {
+    let Some(device) = host_answer::device_named(everyone, unit) else {
         return host_answer::no_record();
-    }
+    };
     let identity = Identity {
-        device: host_answer::device_of(everyone, unit),
+        device,
         firmware: Version { major, minor },
         voice: Version {
             major: voice_major,
