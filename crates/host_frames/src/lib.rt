@@ -21,7 +21,7 @@ use refusal::{OfByte, Refusal};
 // What a frame says, in numbers for C. number: 0 where it is read, else document 01's number with its details, and 0 behind them. everyone: 1 for device byte 7F, and
 // then unit is 0. What the command lacks is 0. run_start, run_len: where the packed run lies in the caller's bytes; both 0 where the command has none.
 #[repr(C)]
-#[derive(Clone, Copy, Debug, PartialEq, Eq)]
+#[derive(Clone, Copy, Debug, Default, PartialEq, Eq)]
 pub struct ReadAnswer {
     pub number: u64,
     pub detail0: u64,
@@ -90,21 +90,7 @@ fn not_read(e: Refusal) -> ReadAnswer
         detail1: why.detail1,
         detail2: why.detail2,
         detail3: why.detail3,
-        everyone: 0,
-        unit: 0,
-        command: 0,
-        free: 0,
-        version: 0,
-        bank: 0,
-        program: 0,
-        last: 0,
-        pattern: 0,
-        has_pattern: 0,
-        interface: 0,
-        rx: 0,
-        tx: 0,
-        run_start: 0,
-        run_len: 0,
+        ..ReadAnswer::default()
     }
 }
 

@@ -13,7 +13,7 @@ use wire::{Channel, ChannelMessage};
 
 // The first held key, in numbers for C. number: 0, or 20. found: 1 where a key is held, and then its channel and key.
 #[repr(C)]
-#[derive(Clone, Copy, Debug, PartialEq, Eq)]
+#[derive(Clone, Copy, Debug, Default, PartialEq, Eq)]
 pub struct HeldAnswer {
     pub number: u64,
     pub found: u64,
@@ -68,10 +68,8 @@ pub fn dm_held_first(keys: &[u8]) -> HeldAnswer
 {
     let Some(bytes) = keys.as_array::<HELD_LEN>() else {
         return HeldAnswer {
-            number: 20,
-            found: 0,
-            channel: 0,
-            key: 0,
+            number: Answer::from(Refusal::BadStore).number,
+            ..HeldAnswer::default()
         };
     };
     match held_keys::first_held(held_keys::bytes::keys_of(bytes)) {
@@ -81,11 +79,6 @@ pub fn dm_held_first(keys: &[u8]) -> HeldAnswer
             channel: channel as u64,
             key: key as u64,
         },
-        None => HeldAnswer {
-            number: 0,
-            found: 0,
-            channel: 0,
-            key: 0,
-        },
+        None => HeldAnswer::default(),
     }
 }

@@ -13,7 +13,7 @@ use inquiry::{Identity, Version};
 // What a request tells, in numbers for C. number: 0 where it is read, else document 01's number with its detail, and 0 behind them. everyone: 1 where it asks every
 // unit, and then unit is 0.
 #[repr(C)]
-#[derive(Clone, Copy, Debug, PartialEq, Eq)]
+#[derive(Clone, Copy, Debug, Default, PartialEq, Eq)]
 pub struct RequestAnswer {
     pub number: u64,
     pub detail0: u64,
@@ -23,7 +23,7 @@ pub struct RequestAnswer {
 
 // What a reply tells: the device as above, the firmware's version and the two voice bytes.
 #[repr(C)]
-#[derive(Clone, Copy, Debug, PartialEq, Eq)]
+#[derive(Clone, Copy, Debug, Default, PartialEq, Eq)]
 pub struct ReplyAnswer {
     pub number: u64,
     pub detail0: u64,
@@ -51,8 +51,7 @@ pub fn dm_request_read(bytes: &[u8]) -> RequestAnswer
             RequestAnswer {
                 number: why.number,
                 detail0: why.detail0,
-                everyone: 0,
-                unit: 0,
+                ..RequestAnswer::default()
             }
         }
     }
@@ -81,12 +80,7 @@ pub fn dm_reply_read(bytes: &[u8]) -> ReplyAnswer
             ReplyAnswer {
                 number: why.number,
                 detail0: why.detail0,
-                everyone: 0,
-                unit: 0,
-                major: 0,
-                minor: 0,
-                voice_major: 0,
-                voice_minor: 0,
+                ..ReplyAnswer::default()
             }
         }
     }
