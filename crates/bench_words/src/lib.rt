@@ -13,10 +13,10 @@ use said::{Failure, No};
 use std::alloc::{AllocError, Global};
 pub use word::Word;
 
-// A request: its word, and what the word is asked.
+// A request: its word, where it is one of the bench's, and what the word is asked.
 #[derive(Clone, Copy)]
 pub struct Request<'a> {
-    pub word: Word,
+    pub word: Option<Word>,
     arguments: Arguments<'a>,
 }
 
@@ -36,7 +36,10 @@ impl<'a> Request<'a> {
 
     // The answer's text; none to another word than the bench's.
     pub fn answer(self, alloc: Global) -> Result<String, AllocError> {
-        match self.word.answer(alloc, self.arguments) {
+        let Some(word) = self.word else {
+            return Ok(String::new(alloc));
+        };
+        match word.answer(alloc, self.arguments) {
             Ok(answer) => Ok(answer),
             Err(Failure::Refused(refusal)) => format!(in alloc; "{}", No(refusal)),
             Err(Failure::OutOfMemory(e)) => Err(e),

@@ -8,7 +8,7 @@ use refusal::OfByte;
 use std::alloc::Global;
 use wire::{Channel, ChannelMessage, Realtime};
 
-// A word that begins a request. Other stands for any that is not the bench's.
+// A word that begins a request.
 #[derive(Clone, Copy, PartialEq, Eq, PartialOrd, Ord)]
 pub enum Word {
     Bank,
@@ -36,7 +36,6 @@ pub enum Word {
     InquiryReply,
     WriteRequest,
     WriteReply,
-    Other,
 }
 
 impl Word {
@@ -97,16 +96,14 @@ impl Word {
             Word::InquiryReply => "irep",
             Word::WriteRequest => "wreq",
             Word::WriteReply => "wrep",
-            Word::Other => "other",
         }
     }
 
-    // The bench's word of a name, or Other.
-    pub fn of(name: &[u8]) -> Word {
+    // The bench's word of a name.
+    pub fn of(name: &[u8]) -> Option<Word> {
         Word::ALL
             .into_iter()
             .find(|word| word.name().as_bytes() == name)
-            .unwrap_or(Word::Other)
     }
 
     // What the word says to its arguments.
@@ -137,7 +134,6 @@ impl Word {
             Word::InquiryReply => wires::inquiry_reply(alloc, ask),
             Word::WriteRequest => wires::write_request(alloc, ask),
             Word::WriteReply => wires::write_reply(alloc, ask),
-            Word::Other => Ok(String::new(alloc)),
         }
     }
 }

@@ -41,11 +41,11 @@ impl fmt::Display for Tally {
     }
 }
 
-// A file's records up to now, counted for each word.
+// A file's records up to now, counted for each word, and together where the bench has no such word.
 #[derive(Drop)]
 struct Replay<'a, R> {
     rt: &'a R,
-    tallies: BTreeMap<Word, Tally>,
+    tallies: BTreeMap<Option<Word>, Tally>,
 }
 
 impl<'a, R: Print + Eprint + AllocGlobal> Replay<'a, R> {
@@ -70,7 +70,7 @@ impl<'a, R: Print + Eprint + AllocGlobal> Replay<'a, R> {
             }
             let Some((line, _)) = text::split_once(&bytes[..count], b'\n') else {
                 self.show(record, &bytes[..count], b"a line with no end", b"")?;
-                return self.count(Word::Other, 0, 1);
+                return self.count(None, 0, 1);
             };
             self.replay(record, line)?;
             place = place.saturating_add(line.len() as u64).saturating_add(1);
@@ -96,7 +96,7 @@ impl<'a, R: Print + Eprint + AllocGlobal> Replay<'a, R> {
         self.count(word, 1, u64::from(!is_same))
     }
 
-    fn count(&mut self, word: Word, answers: u64, differ: u64) -> io::Result<()> {
+    fn count(&mut self, word: Option<Word>, answers: u64, differ: u64) -> io::Result<()> {
         let tally = self.tallies.entry(word)?.or_default();
         tally.add(Tally { answers, differ });
         Ok(())
@@ -113,14 +113,15 @@ impl<'a, R: Print + Eprint + AllocGlobal> Replay<'a, R> {
         self.rt.write_all(b"\n")
     }
 
-    // A line for each word that was replayed, and one for all.
+    // A line for each word that was replayed, one for what is no word, and one for all.
     fn tell(&self, path: &str) -> io::Result<()> {
         let mut all = Tally::default();
-        for (word, tally) in self.tallies.iter() {
+        for word in Word::ALL.into_iter().map(Some).chain([None]) {
+            let tally = self.tallies.get(&word).copied().unwrap_or_default();
             if 0 < tally.answers {
-                println!(self.rt; "{}: {tally}", word.name())?;
+                println!(self.rt; "{}: {tally}", word.map_or("other", |word| word.name()))?;
             }
-            all.add(*tally);
+            all.add(tally);
         }
         println!(self.rt; "{path}: {all}")
     }
