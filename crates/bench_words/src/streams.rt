@@ -1,7 +1,8 @@
 // The words of the decoder, from a fresh one each time.
 use crate::arguments::Arguments;
 use crate::said::Failure;
-use decoder::{Decoder, Fed, MAX_SYSEX_LEN, Report};
+use decoder::{Decoder, MAX_SYSEX_LEN, Report};
+use decoder_in_place::Taken;
 use refusal::OfByte;
 use std::alloc::{AllocError, Global};
 use std::fmt;
@@ -86,35 +87,29 @@ impl Stream {
         })
     }
 
-    // Calls until all bytes are used, and then answers true; a call stands still that is refused, uses no byte or more than it was given.
+    // Calls until all bytes are used, and then answers true; it stops where a call is refused.
     fn take(&mut self, bytes: &[u8]) -> Result<bool, AllocError> {
         let mut rest = bytes;
-        while !rest.is_empty() {
-            let Ok(fed) = self.state.feed(&mut self.store, rest) else {
-                return Ok(false);
-            };
-            let Some((used, next)) = rest.split_at_checked(fed.used) else {
-                return Ok(false);
-            };
-            if used.is_empty() {
-                return Ok(false);
-            }
-            self.state = fed.state;
+        while let Some((taken, next)) = decoder_in_place::feed_front(
+            &mut self.state,
+            &mut self.store,
+            rest,
+        ) {
             self.place = self
                 .place
-                .map(|place| place.wrapping_add(used.len() as u64));
-            self.tell_all(fed)?;
+                .map(|place| place.wrapping_add(taken.used as u64));
+            self.tell_all(taken)?;
             rest = next;
         }
-        Ok(true)
+        Ok(rest.is_empty())
     }
 
     // The reports of one call.
-    fn tell_all(&mut self, fed: Fed) -> Result<(), AllocError> {
-        if fed.interrupted {
+    fn tell_all(&mut self, taken: Taken) -> Result<(), AllocError> {
+        if taken.interrupted {
             self.tell(Report::SysExInterrupted)?;
         }
-        match fed.report {
+        match taken.report {
             Some(report) => self.tell(report),
             None => Ok(()),
         }

@@ -4,12 +4,13 @@
 ghost use Rattle.std.specs.Prelude.{◌≡◌};
 ghost use Rattle.decoder.specs.State.{reset};
 ghost use Rattle.decoder.specs.Call.{call};
-ghost use Rattle.decoder_in_place.specs.InPlace.{FeedsInPlace};
+ghost use Rattle.decoder_in_place.specs.InPlace.{FeedsInPlace, FeedsFront};
 
 use decoder::{Decoder, Report};
 use refusal::Refusal;
 
-// What a call did: the bytes that it used, and the reports of the last of them.
+// What a call did: the bytes that it used, and the reports of the last of them. Flag and report stand side by side, as in decoder's Fed, so that
+// taken_of and whoever reads them name each by one field.
 #[derive(Clone, Copy, Debug, PartialEq, Eq)]
 pub struct Taken {
     pub used: usize,
@@ -28,6 +29,25 @@ pub fn feed(state: &mut Decoder, store: &mut [u8], bytes: &[u8]) -> Result<Taken
         interrupted: fed.interrupted,
         report: fed.report,
     })
+}
+
+// One call with what is left of a piece: what it did, and what is left behind the bytes that it used. None where the call is refused, and where nothing
+// is left.
+pub fn feed_front<'a>(
+    state: &mut Decoder,
+    store: &mut [u8],
+    rest: &'a [u8],
+) -> Option<(Taken, &'a [u8])>
+    ensures { FeedsFront (call state.old store.old rest.now) result rest.entry state.old state.new store.old store.new }
+{
+    if rest.is_empty() {
+        return None;
+    }
+    let Ok(taken) = feed(state, store, rest) else {
+        return None;
+    };
+    let left = &rest[taken.used..];
+    Some((taken, left))
 }
 
 // Forgets the open frame, the status and pending data. Takes any state.

@@ -46,20 +46,15 @@ impl<'a, R: Print + Eprint + AllocGlobal> Monitor<'a, R> {
         self.end()
     }
 
-    // Calls until the piece is used up. It stops where a call is refused or uses no byte, which no call from a fresh decoder does.
+    // Calls until the piece is used up. It stops where a call is refused, which no call from a fresh decoder is.
     fn take(&mut self, piece: &[u8]) -> io::Result<()> {
         let mut rest = piece;
-        while !rest.is_empty() {
-            let Ok(taken) = decoder_in_place::feed(&mut self.state, &mut self.store, rest) else {
-                break;
-            };
-            let Some((used, next)) = rest.split_at_checked(taken.used) else {
-                break;
-            };
-            if used.is_empty() {
-                break;
-            }
-            self.place = self.place.wrapping_add(used.len() as u64);
+        while let Some((taken, next)) = decoder_in_place::feed_front(
+            &mut self.state,
+            &mut self.store,
+            rest,
+        ) {
+            self.place = self.place.wrapping_add(taken.used as u64);
             if taken.interrupted {
                 self.show(Report::SysExInterrupted)?;
             }

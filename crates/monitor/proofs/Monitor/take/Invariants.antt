@@ -2,5 +2,5 @@
 use Rattle.std.proofs.Common.{length}
 use Rattle.monitor.proofs.Monitor.take.Given as goal
 
-abbrev pub decreases-loop-rest : goal.decreases-loop-rest
-decreases-loop-rest g l = length l.rest
+abbrev pub decreases-loop-taken : goal.decreases-loop-taken
+decreases-loop-taken g l = length l.rest

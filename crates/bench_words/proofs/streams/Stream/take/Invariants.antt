@@ -2,5 +2,5 @@
 use Rattle.std.proofs.Common.{length}
 use Rattle.bench_words.proofs.streams.Stream.take.Given as goal
 
-abbrev pub decreases-loop-rest : goal.decreases-loop-rest
-decreases-loop-rest l = length l.rest
+abbrev pub decreases-loop-taken : goal.decreases-loop-taken
+decreases-loop-taken l = length l.rest
