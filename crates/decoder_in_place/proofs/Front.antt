@@ -1,7 +1,9 @@
 -- A call with what is left of a piece uses a byte where one is left, and no more than are left.
-use Rattle.std.specs.Prelude.{None, Some}
+use Rattle.std.specs.Prelude.{None, Some, Ok, Err, Result}
+use Rattle.std.specs.Result.{result_ok}
+use Rattle.std.proofs.lemmas.Option.{none-some}
 use Rattle.std.specs.Borrow.{Bor}
-use mathlib.Core.Path.{◌≡◌, refl, ap}
+use mathlib.Core.Path.{◌≡◌, refl, ap, sym, ◌∙◌}
 use mathlib.Core.Bool.{false}
 use mathlib.Core.List.{List, [], ◌∷◌}
 use Prim.Native.Nat.{ℕ, ◌≤◌, ◌<◌}
@@ -10,7 +12,8 @@ use lib.Dec.{eqb}
 use lib.ListN.{length}
 use borrow.Author.Tests.{eqb-false}
 use Rattle.laws.proofs.Tests.{by_test}
-use Rattle.refusal.specs.Outcome.{Outcome, gives}
+use Rattle.refusal.specs.declared.Refusal.{Refusal}
+use Rattle.refusal.specs.Outcome.{Outcome, gives, answered}
 use Rattle.decoder.specs.declared.Decoder.{Decoder}
 use Rattle.decoder.specs.Step.{step, stored}
 use Rattle.decoder.specs.Call.{Walked, walk, reports, ready, call, store_of}
@@ -28,6 +31,11 @@ uses_one : (d : Decoder) (store bytes : List ℕ) → 0 < length bytes → 0 < (
 unfolding walk
 uses_one d store [] h = absurd (omega arith)
 uses_one d store (b ∷ bs) h = by_test (λ (w : Walked). 0 < w.fed.used) (reports (step d b)) _ _ (λ e. omega arith) (λ e. omega arith)
+
+-- what a call that is not refused gives
+pub ok_gives : (r : Result Taken Refusal) (t : Taken) (o : Outcome Taken) → result_ok r ≡ Some t → answered r ≡ o → gives t ≡ o
+ok_gives (Ok x) t o e h = let same : x ≡ t = cc in ap (λ (y : Taken). gives y) (sym same) ∙ h
+ok_gives (Err x) t o e h = absurd (none-some t e)
 
 -- what is used of bytes that are left
 pub record Uses (bytes : List ℕ) (t : Taken) : Type 0 where

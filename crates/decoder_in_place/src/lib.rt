@@ -43,9 +43,7 @@ pub fn feed_front<'a>(
     if rest.is_empty() {
         return None;
     }
-    let Ok(taken) = feed(state, store, rest) else {
-        return None;
-    };
+    let taken = feed(state, store, rest).ok()?;
     let left = &rest[taken.used..];
     Some((taken, left))
 }
