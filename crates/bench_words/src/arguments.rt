@@ -67,6 +67,7 @@ fn appended(n: u64, digit: u32) -> u64 {
     }
 }
 
+// A number's low byte: a cast, since From does not narrow.
 fn byte_of(text: &[u8]) -> u8 {
     (number_of(text) % 256) as u8
 }

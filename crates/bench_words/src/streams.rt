@@ -87,7 +87,8 @@ impl Stream {
         })
     }
 
-    // Calls until all bytes are used, and then answers true; it stops where a call is refused.
+    // Calls until all bytes are used, and then answers true; it stops where a call is refused. Places are u64, to
+    // which no From leads from usize.
     fn take(&mut self, bytes: &[u8]) -> Result<bool, AllocError> {
         let mut rest = bytes;
         while let Some((taken, next)) = decoder_in_place::feed_front(
@@ -147,7 +148,8 @@ pub fn feed(alloc: Global, mut ask: Arguments<'_>) -> Result<String, Failure> {
     Ok(answer)
 }
 
-// The bytes in pieces of the sizes that are listed, from the first size again behind the last.
+// The bytes in pieces of the sizes that are listed, from the first size again behind the last. A size is cast, since no From leads from u64 to
+// usize.
 pub fn chunks(alloc: Global, mut ask: Arguments<'_>) -> Result<String, Failure> {
     let sizes = ask.numbers(alloc)?;
     let bytes = ask.bytes(alloc)?;

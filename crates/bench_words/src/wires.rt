@@ -6,10 +6,12 @@ use refusal::{OfByte, Refusal};
 use std::alloc::Global;
 use wire::{Channel, ChannelMessage};
 
+// A length is cast, since no From leads from u64 to usize.
 pub fn packed_len(alloc: Global, mut ask: Arguments<'_>) -> Result<String, Failure> {
     ok(alloc, packed::packed_len(ask.number() as usize)?)
 }
 
+// A length is cast, since no From leads from u64 to usize.
 pub fn unpacked_len(alloc: Global, mut ask: Arguments<'_>) -> Result<String, Failure> {
     ok(alloc, packed::unpacked_len(ask.number() as usize)?)
 }
@@ -39,7 +41,8 @@ pub fn turned<F: FnOnce(&[u8], &mut [u8]) -> Result<usize, Refusal>>(
     written(alloc, ask, |lent| write(bytes.as_slice(), lent))
 }
 
-// The message of a nibble and its data, on a channel; a bend is the first number, and what any other nibble stands for.
+// The message of a nibble and its data, on a channel; a bend is the first number, and what any other nibble stands for: a cast,
+// since From does not narrow.
 pub fn channel_message(alloc: Global, mut ask: Arguments<'_>) -> Result<String, Failure> {
     let nibble = ask.byte();
     let channel = Channel(ask.byte());

@@ -246,7 +246,7 @@ impl Command {
         }
     }
 
-    // The command's row of the table.
+    // The command's row of the table, at its own number, which a cast alone tells.
     pub fn row(self) -> Row
         ensures { result ≡ row_of self }
     {

@@ -32,12 +32,6 @@ module _ (h prefix run out s n m : List ℕ) (seven : length h ≡ 7) (room : 8 
       ap₂ (λ (x z : List ℕ). put_mid 7 (length x - 7) x z) s-is (n-is ∙ ap (λ (x : List ℕ). prefix ++ drop (length prefix) (take (length x - 7) (drop 7 x))) s-is)
       ∙ put_behind h (drop 7 out) prefix 7 seven
 
-  pub length_header : length s ≡ length out
-  length_header = ap length s-is ∙ simp (length-append, length-drop) (omega arith)
-
-  pub length_prefix : length (put_mid 7 (length s - 7) s n) ≡ length out
-  length_prefix = ap length prefix_put ∙ simp (length-append, length-drop) (omega arith)
-
   -- the run is put right behind the prefix
   module _ (t : List ℕ) (t-is : t ≡ put_mid 7 (length s - 7) s n)
       (m-is : m ≡ run ++ drop (length run) (take (length t - (7 + length prefix)) (drop (7 + length prefix) t))) where
@@ -50,9 +44,6 @@ module _ (h prefix run out s n m : List ℕ) (seven : length h ≡ 7) (room : 8 
         let a : ℕ = 7 + length prefix in
         ap₂ (λ (x z : List ℕ). put_mid a (length x - a) x z) is (m-is ∙ ap (λ (x : List ℕ). run ++ drop (length run) (take (length x - a) (drop a x))) is)
         ∙ put_behind (h ++ prefix) (drop (length prefix) (drop 7 out)) run a front_length
-
-    pub length_run : length (put_mid (7 + length prefix) (length t - (7 + length prefix)) t m) ≡ length out
-    length_run = ap length run_put ∙ simp (length-append, length-drop) (omega arith)
 
     -- F7 right behind the run completes the frame, and the bytes behind it stay
     pub frame_put : set (put_mid (7 + length prefix) (length t - (7 + length prefix)) t m) (7 + length prefix + length run) 0xF7

@@ -81,7 +81,7 @@ pub fn applied(mut keys: HeldKeys, channel: Channel, message: ChannelMessage) ->
     keys
 }
 
-// How many keys are held on a channel. Refuses 17.
+// How many keys are held on a channel: a cast, since no From leads from u32 to usize. Refuses 17.
 pub fn count_held(keys: HeldKeys, channel: Channel) -> Result<usize, Refusal>
     ensures { answered result ≡ count_on keys channel.0 }
 {

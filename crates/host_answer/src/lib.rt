@@ -67,7 +67,7 @@ impl From<Refusal> for Answer {
     }
 }
 
-// A count, or a refusal.
+// A count, or a refusal. The count is cast, since no From leads from usize to u64.
 impl From<Result<usize, Refusal>> for Answer {
     ghost from_gives = { λ counted answer. answer ≡ answer_of (answered counted) };
 

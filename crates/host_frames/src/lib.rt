@@ -45,7 +45,7 @@ pub struct ReadAnswer {
     pub run_len: u64,
 }
 
-// The numbers of a frame that was read.
+// The numbers of a frame that was read. The run's two are cast, since no From leads from usize to u64.
 fn numbers(read: Located) -> ReadAnswer
     ensures { result ≡ frame_numbers read.frame.device read.frame.command read.frame.fields read.run.start read.run.len }
 {

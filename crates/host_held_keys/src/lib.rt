@@ -29,7 +29,7 @@ pub fn dm_held_fresh(keys: &mut [u8]) -> Answer
         return Answer::from(Refusal::BadStore);
     };
     held_keys::bytes::put_keys(held_keys::new(), bytes);
-    host_answer::done(HELD_LEN as u64)
+    Answer::from(Ok(HELD_LEN))
 }
 
 // Applies a message, given as dm_channel_write takes it. Refuses 20 for the length, NO_RECORD for a nibble that no record names, 17; then nothing is changed.
@@ -62,7 +62,7 @@ pub fn dm_held_count(keys: &[u8], channel: u8) -> Answer
     Answer::from(held_keys::count_held(held_keys::bytes::keys_of(bytes), Channel(channel)))
 }
 
-// The held key on the lowest channel, and there the lowest key. Refuses 20 for the length.
+// The held key on the lowest channel, and there the lowest key. Refuses 20 for the length. The two are cast, since no From leads from usize to u64.
 pub fn dm_held_first(keys: &[u8]) -> HeldAnswer
     ensures { result ≡ first_in keys.now }
 {

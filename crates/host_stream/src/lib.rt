@@ -21,7 +21,7 @@ pub fn dm_feed(state: &mut [u8], store: &mut [u8], bytes: &[u8]) -> FedAnswer
     stream::feed(state, store, bytes)
 }
 
-// The frame limit.
+// The frame limit: a cast, since no From leads from usize to u64.
 #[tactic(auto, unfolding(decoder::specs::State::limit))]
 pub fn dm_capacity() -> u64
     ensures { result ≡ limit }
@@ -37,7 +37,7 @@ pub fn dm_fresh(state: &mut [u8]) -> Answer
         return Answer::from(Refusal::BadStore);
     }
     state::put_state(Decoder::new(), state);
-    host_answer::done(STATE_LEN as u64)
+    Answer::from(Ok(STATE_LEN))
 }
 
 // Closes the frame and clears status and pending data, whatever the bytes hold. Refuses 20 for any other length than STATE_LEN.
@@ -48,7 +48,7 @@ pub fn dm_reset(state: &mut [u8]) -> Answer
         return Answer::from(Refusal::BadStore);
     }
     state::put_state(state::state_of(state).reset(), state);
-    host_answer::done(STATE_LEN as u64)
+    Answer::from(Ok(STATE_LEN))
 }
 
 // 1 while a frame is open, else 0. Refuses 20 for bytes that are no state.

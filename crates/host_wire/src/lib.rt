@@ -20,7 +20,7 @@ pub fn dm_data_len(status: u8) -> Answer
 {
     ChannelMessage::data_len_for(status).map_or(
         host_answer::no_record(),
-        |len| host_answer::done(len as u64),
+        |len| Answer::from(Ok(len)),
     )
 }
 

@@ -46,7 +46,8 @@ impl<'a, R: Print + Eprint + AllocGlobal> Monitor<'a, R> {
         self.end()
     }
 
-    // Calls until the piece is used up. It stops where a call is refused, which no call from a fresh decoder is.
+    // Calls until the piece is used up. It stops where a call is refused, which no call from a fresh decoder is. Places are u64, to which no
+    // From leads from usize.
     fn take(&mut self, piece: &[u8]) -> io::Result<()> {
         let mut rest = piece;
         while let Some((taken, next)) = decoder_in_place::feed_front(

@@ -80,7 +80,7 @@ impl Refusal {
         }
     }
 
-    // The values that the table gives for it, in the table's order, and none behind the last.
+    // The values that the table gives for it, in the table's order, and none behind the last. Lengths are cast, since no From leads from usize to u64.
     pub fn details(self) -> [Option<u64>; 4]
         ensures { result ≡ slice_get (values_of self) 0 ∷ slice_get (values_of self) 1 ∷ slice_get (values_of self) 2 ∷ slice_get (values_of self) 3 ∷ [] }
     {

@@ -57,6 +57,7 @@ impl<'a, R: Print + Eprint + AllocGlobal> Replay<'a, R> {
     }
 
     // Replays record after record, each read from its place on. What cannot be read, and a line with no end, is the last.
+    // Places in a file are u64, to which no From leads from usize.
     fn run(&mut self, file: &impl FileExt, path: &str) -> io::Result<()> {
         let mut place: u64 = 0;
         for record in 1..0x1_0000_0000u64 {

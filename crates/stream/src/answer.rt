@@ -12,7 +12,7 @@ ghost use Rattle.stream.specs.quick.Bytes.{is_realtime};
 use crate::{CHANNEL, COMMON, FedAnswer, NOTHING, REALTIME, SYSEX};
 use decoder::MAX_SYSEX_LEN;
 
-// One report that no 18 leads.
+// One report that no 18 leads. The count of used bytes is cast, since no From leads from usize to u64.
 fn told(used: usize, kind: u64, status: u64, first: u64, second: u64) -> FedAnswer
     ensures { result ≡ record { number = 0; used = used; interrupted = 0; kind = kind; status = status; first = first; second = second } }
 {
@@ -80,14 +80,14 @@ pub fn common(status: u8, value: u64, used: usize) -> FedAnswer
     told(used, COMMON, u64::from(status), value, 0)
 }
 
-// A frame of so many bytes.
+// A frame of so many bytes: a cast, since no From leads from usize to u64.
 pub fn frame(len: usize, used: usize) -> FedAnswer
     ensures { result ≡ numbers_of used false (Some (r.SysEx len)) }
 {
     told(used, SYSEX, 0, len as u64, 0)
 }
 
-// 19, with the frame limit.
+// 19, with the frame limit: a cast, since no From leads from usize to u64.
 #[tactic(auto, unfolding(decoder::specs::State::limit))]
 pub fn too_long(used: usize) -> FedAnswer
     ensures { result ≡ numbers_of used false (Some (r.SysExTooLong limit)) }

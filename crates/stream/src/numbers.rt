@@ -30,7 +30,7 @@ pub fn held(status: u8) -> u32
     0x100 + 0x1_0000 * u32::from(status)
 }
 
-// The status in the number of what waits, 0 for none.
+// The status in the number of what waits, 0 for none: a cast, since From does not narrow.
 pub fn status_in(middle: u32) -> u8
     ensures { result ≡ status_in middle }
 {
@@ -52,7 +52,7 @@ pub fn put_waiting(word: u32, first: u8, state: &mut [u8; STATE_LEN])
     state[12] = first;
 }
 
-// An open frame of so many bytes.
+// An open frame of so many bytes: a cast, since no From leads from usize to u64.
 #[tactic(auto, using(decoder::proofs::Limit::limit_is))]
 pub fn put_open(len: usize, state: &mut [u8; STATE_LEN])
     requires { len < 4_294_967_296 }
@@ -68,7 +68,7 @@ pub fn put_closed(state: &mut [u8; STATE_LEN])
     words::put_word(0, state, 0);
 }
 
-// Is this an open frame's first number, its length within the limit?
+// Is this an open frame's first number, its length within the limit? A cast makes it usize, to which no From leads from u32.
 #[tactic(auto, unfolding(decoder::specs::State::limit))]
 fn takes_open(front: u32) -> bool
     ensures { result ≡ open_taken front }

@@ -13,7 +13,7 @@ pub fn is_state(state: &[u8]) -> bool
     state.len() == STATE_LEN && state[0] <= 1 && state[9] <= 1 && (state[9] == 1 || state[10] == 0)
 }
 
-// The state that the bytes say.
+// The state that the bytes say. The length is cast, since no From leads from u64 to usize.
 pub fn state_of(state: &[u8]) -> Decoder
     requires { length state.now ≡ 14 }
     ensures { result ≡ state_of state.now }
@@ -28,7 +28,7 @@ pub fn state_of(state: &[u8]) -> Decoder
     }
 }
 
-// Stores a state's bytes.
+// Stores a state's bytes. The length is cast, since no From leads from usize to u64.
 pub fn put_state(d: Decoder, state: &mut [u8])
     requires { length state.old ≡ 14 }
     ensures { state.new ≡ encoded d }

@@ -56,6 +56,7 @@ impl ChannelMessage {
     }
 
     // The data bytes that are sent, 0 for what the message lacks: seven bits of each, fourteen of a bend, low seven first.
+    // A bend's are cast, since From does not narrow.
     fn data_bytes(self) -> [u8; 2]
         ensures { result ≡ get_or (data_bytes self) 0 0 ∷ get_or (data_bytes self) 1 0 ∷ [] }
     {
@@ -97,7 +98,8 @@ impl ChannelMessage {
         ChannelMessage::from_nibble(nibble, value, b)
     }
 
-    // The message of a status nibble and its data: a is the whole of a bend, and the first data byte of every other message.
+    // The message of a status nibble and its data: a is the whole of a bend, and the first data byte of every other message: a cast, since From does
+    // not narrow.
     pub fn from_nibble(nibble: u8, a: u16, b: u8) -> Option<ChannelMessage>
         ensures { result ≡ channel_kind nibble a b }
     {

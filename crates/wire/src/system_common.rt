@@ -88,7 +88,7 @@ impl CommonStatus {
         }
     }
 
-    // Writes the message with a value, status byte first. Refuses 21, tested before the value is narrowed, then 14.
+    // Writes the message with a value, status byte first. Refuses 21, tested before the value is narrowed, then 14. Casts narrow it, as From does not.
     pub fn encode_into(self, value: u16, out: &mut [u8]) -> Result<usize, Refusal>
         ensures { Writes (common_write self value (length out.old)) result out.old out.new }
     {

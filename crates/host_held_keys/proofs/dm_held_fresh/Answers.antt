@@ -6,5 +6,5 @@ use Rattle.host_held_keys.proofs.dm_held_fresh.Goals as goal
 
 pub returns : goal.returns
 returns c =
-    fresh_written c.args.keys.now c.put_keys.new.bytes c.done.result c.in-Some.ensures.cases.long (c.put_keys.ensures ∙ ap bytes_of_keys c.new.ensures)
-    c.done.ensures
+    fresh_written c.args.keys.now c.put_keys.new.bytes c.from-2.result c.in-Some.ensures.cases.long (c.put_keys.ensures ∙ ap bytes_of_keys c.new.ensures)
+    c.from-2.ensures
