@@ -5,15 +5,19 @@ use std::alloc::{AllocError, Global};
 // So many bytes are read of one word at most.
 pub const MOST_BYTES: usize = 4096;
 
-// What is left of a request. Each call reads a value at its front, up to where the value ends, and goes on behind the next space.
+// What is left of a request, and where what is read of it is put. Each call reads a value at its front, up to where the value ends, and goes on behind
+// the next space.
 #[derive(Clone, Copy)]
-pub struct Arguments<'a>(pub &'a [u8]);
+pub struct Arguments<'a> {
+    pub alloc: Global,
+    pub rest: &'a [u8],
+}
 
 impl<'a> Arguments<'a> {
     // What stands at the front, up to the end of the request.
     fn front(&mut self) -> &'a [u8] {
-        let all = self.0;
-        self.0 = text::split_once(all, b' ').map_or(Default::default(), |(_, behind)| behind);
+        let all = self.rest;
+        self.rest = text::split_once(all, b' ').map_or(Default::default(), |(_, behind)| behind);
         all
     }
 
@@ -33,22 +37,22 @@ impl<'a> Arguments<'a> {
         }
     }
 
-    pub fn bytes(&mut self, alloc: Global) -> Result<Vec<u8>, AllocError> {
+    pub fn bytes(&mut self) -> Result<Vec<u8>, AllocError> {
         let (pairs, _) = self.front().as_chunks::<2>();
         pairs
             .iter()
             .map_while(|pair| paired(*pair))
             .take(MOST_BYTES)
-            .collect(alloc)
+            .collect(self.alloc)
     }
 
     // Numbers with commas between them.
-    pub fn numbers(&mut self, alloc: Global) -> Result<Vec<u64>, AllocError> {
+    pub fn numbers(&mut self) -> Result<Vec<u64>, AllocError> {
         let all = self.front();
         let word = text::split_once(all, b' ').map_or(all, |(word, _)| word);
         word.split(|byte| *byte == b',')
             .map(number_of)
-            .collect(alloc)
+            .collect(self.alloc)
     }
 }
 

@@ -17,7 +17,7 @@ pub use word::Word;
 #[derive(Clone, Copy)]
 pub struct Request<'a> {
     pub word: Option<Word>,
-    arguments: Arguments<'a>,
+    rest: &'a [u8],
 }
 
 impl<'a> Request<'a> {
@@ -30,7 +30,7 @@ impl<'a> Request<'a> {
         ));
         Request {
             word: Word::of(name),
-            arguments: Arguments(rest),
+            rest,
         }
     }
 
@@ -39,7 +39,8 @@ impl<'a> Request<'a> {
         let Some(word) = self.word else {
             return Ok(String::new(alloc));
         };
-        match word.answer(alloc, self.arguments) {
+        let rest = self.rest;
+        match word.answer(Arguments { alloc, rest }) {
             Ok(answer) => Ok(answer),
             Err(Failure::Refused(refusal)) => format!(in alloc; "{}", No(refusal)),
             Err(Failure::OutOfMemory(e)) => Err(e),

@@ -138,9 +138,9 @@ impl Stream {
     }
 }
 
-pub fn feed(alloc: Global, mut ask: Arguments<'_>) -> Result<String, Failure> {
-    let bytes = ask.bytes(alloc)?;
-    let mut stream = Stream::new(alloc, Some(0))?;
+pub fn feed(mut ask: Arguments<'_>) -> Result<String, Failure> {
+    let bytes = ask.bytes()?;
+    let mut stream = Stream::new(ask.alloc, Some(0))?;
     let all_used = stream.take(bytes.as_slice())?;
     let open = u8::from(stream.state.in_sysex);
     let mut answer = stream.answer(all_used)?;
@@ -150,10 +150,10 @@ pub fn feed(alloc: Global, mut ask: Arguments<'_>) -> Result<String, Failure> {
 
 // The bytes in pieces of the sizes that are listed, from the first size again behind the last. A size is cast, since no From leads from u64 to
 // usize.
-pub fn chunks(alloc: Global, mut ask: Arguments<'_>) -> Result<String, Failure> {
-    let sizes = ask.numbers(alloc)?;
-    let bytes = ask.bytes(alloc)?;
-    let mut stream = Stream::new(alloc, None)?;
+pub fn chunks(mut ask: Arguments<'_>) -> Result<String, Failure> {
+    let sizes = ask.numbers()?;
+    let bytes = ask.bytes()?;
+    let mut stream = Stream::new(ask.alloc, None)?;
     let mut all_used = true;
     let mut rest = bytes.as_slice();
     for size in sizes.iter().copied().cycle().take(65536) {

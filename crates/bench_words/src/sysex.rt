@@ -41,8 +41,8 @@ fn stays(bytes: &[u8]) -> bool {
     }
 }
 
-pub fn frame(alloc: Global, mut ask: Arguments<'_>) -> Result<String, Failure> {
-    read(alloc, ask.bytes(alloc)?.as_slice())
+pub fn frame(mut ask: Arguments<'_>) -> Result<String, Failure> {
+    read(ask.alloc, ask.bytes()?.as_slice())
 }
 
 // A record as the words `fwrite` and `readback` list it, and its run.
@@ -54,7 +54,7 @@ struct Hand {
     run: Vec<u8>,
 }
 
-fn listed(alloc: Global, ask: &mut Arguments<'_>) -> Result<Hand, Failure> {
+fn listed(ask: &mut Arguments<'_>) -> Result<Hand, Failure> {
     let device = ask.device();
     let command = ask.byte();
     let fields = Fields {
@@ -69,7 +69,7 @@ fn listed(alloc: Global, ask: &mut Arguments<'_>) -> Result<Hand, Failure> {
         rx: ask.byte(),
         tx: ask.byte(),
     };
-    let run = ask.bytes(alloc)?;
+    let run = ask.bytes()?;
     Ok(Hand {
         device,
         command,
@@ -79,28 +79,28 @@ fn listed(alloc: Global, ask: &mut Arguments<'_>) -> Result<Hand, Failure> {
 }
 
 // By the writer of plain fields.
-pub fn frame_write(alloc: Global, mut ask: Arguments<'_>) -> Result<String, Failure> {
+pub fn frame_write(mut ask: Arguments<'_>) -> Result<String, Failure> {
     let Hand {
         device,
         command,
         fields,
         run,
-    } = listed(alloc, &mut ask)?;
-    wires::written(alloc, ask, |lent| {
+    } = listed(&mut ask)?;
+    wires::written(ask, |lent| {
         frame_writer::write_record(device, command, fields, run.as_slice(), lent)
     })
 }
 
 // By the writer of messages, to the front of a buffer with room for every frame; what was written is read.
-pub fn read_back(alloc: Global, mut ask: Arguments<'_>) -> Result<String, Failure> {
+pub fn read_back(mut ask: Arguments<'_>) -> Result<String, Failure> {
     let Hand {
         device,
         command,
         fields,
         run,
-    } = listed(alloc, &mut ask)?;
+    } = listed(&mut ask)?;
     let mut space = [0u8; MOST_BYTES];
     let frame = message::head::from_record(device, command, fields)?;
     let count = frame_writer::encode_into(frame, run.as_slice(), &mut space)?;
-    read(alloc, text::front(&space, count))
+    read(ask.alloc, text::front(&space, count))
 }

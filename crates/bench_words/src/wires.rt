@@ -3,70 +3,67 @@ use crate::arguments::Arguments;
 use crate::said::{Failure, ok, wrote};
 use inquiry::{Identity, Version};
 use refusal::{OfByte, Refusal};
-use std::alloc::Global;
 use wire::{Channel, ChannelMessage};
 
 // A length is cast, since no From leads from u64 to usize.
-pub fn packed_len(alloc: Global, mut ask: Arguments<'_>) -> Result<String, Failure> {
-    ok(alloc, packed::packed_len(ask.number() as usize)?)
+pub fn packed_len(mut ask: Arguments<'_>) -> Result<String, Failure> {
+    ok(ask.alloc, packed::packed_len(ask.number() as usize)?)
 }
 
 // A length is cast, since no From leads from u64 to usize.
-pub fn unpacked_len(alloc: Global, mut ask: Arguments<'_>) -> Result<String, Failure> {
-    ok(alloc, packed::unpacked_len(ask.number() as usize)?)
+pub fn unpacked_len(mut ask: Arguments<'_>) -> Result<String, Failure> {
+    ok(ask.alloc, packed::unpacked_len(ask.number() as usize)?)
 }
 
 // What a writer answers that is lent the bytes that stand next.
 pub fn written<F: FnOnce(&mut [u8]) -> Result<usize, Refusal>>(
-    alloc: Global,
     mut ask: Arguments<'_>,
     write: F,
 ) -> Result<String, Failure>
     requires { F.IsAlwaysCallable write }
 {
-    let mut lent = ask.bytes(alloc)?;
+    let mut lent = ask.bytes()?;
     let count = write(lent.as_mut_slice());
-    wrote(alloc, count, lent.as_slice())
+    wrote(ask.alloc, count, lent.as_slice())
 }
 
 // What a writer makes of bytes.
 pub fn turned<F: FnOnce(&[u8], &mut [u8]) -> Result<usize, Refusal>>(
-    alloc: Global,
     mut ask: Arguments<'_>,
     write: F,
 ) -> Result<String, Failure>
     requires { F.IsAlwaysCallable write }
 {
-    let bytes = ask.bytes(alloc)?;
-    written(alloc, ask, |lent| write(bytes.as_slice(), lent))
+    let bytes = ask.bytes()?;
+    written(ask, |lent| write(bytes.as_slice(), lent))
 }
 
 // The message of a nibble and its data, on a channel; a bend is the first number, and what any other nibble stands for: a cast,
 // since From does not narrow.
-pub fn channel_message(alloc: Global, mut ask: Arguments<'_>) -> Result<String, Failure> {
+pub fn channel_message(mut ask: Arguments<'_>) -> Result<String, Failure> {
     let nibble = ask.byte();
     let channel = Channel(ask.byte());
     let value = (ask.number() % 65536) as u16;
     let message = ChannelMessage::from_nibble(nibble, value, ask.byte()).unwrap_or(
         ChannelMessage::PitchBend { value },
     );
-    written(alloc, ask, |lent| message.encode_into(channel, lent))
+    written(ask, |lent| message.encode_into(channel, lent))
 }
 
-pub fn inquiry_request(alloc: Global, mut ask: Arguments<'_>) -> Result<String, Failure> {
-    let bytes = ask.bytes(alloc)?;
+pub fn inquiry_request(mut ask: Arguments<'_>) -> Result<String, Failure> {
+    let bytes = ask.bytes()?;
     let device = inquiry::request::parse_request(bytes.as_slice())?;
-    ok(alloc, device.to_byte())
+    ok(ask.alloc, device.to_byte())
 }
 
-pub fn inquiry_reply(alloc: Global, mut ask: Arguments<'_>) -> Result<String, Failure> {
-    let bytes = ask.bytes(alloc)?;
+pub fn inquiry_reply(mut ask: Arguments<'_>) -> Result<String, Failure> {
+    let bytes = ask.bytes()?;
     let Identity {
         device,
         firmware,
         voice,
     } = inquiry::reply::parse_reply(bytes.as_slice())?;
-    Ok(format!(in alloc;
+    Ok(format!(in ask.alloc;
         "ok dev={} fw={}.{} voice={},{}",
         device.to_byte(),
         firmware.major,
@@ -76,16 +73,12 @@ pub fn inquiry_reply(alloc: Global, mut ask: Arguments<'_>) -> Result<String, Fa
     )?)
 }
 
-pub fn write_request(alloc: Global, mut ask: Arguments<'_>) -> Result<String, Failure> {
+pub fn write_request(mut ask: Arguments<'_>) -> Result<String, Failure> {
     let device = ask.device();
-    written(
-        alloc,
-        ask,
-        |lent| inquiry::request::request_into(device, lent),
-    )
+    written(ask, |lent| inquiry::request::request_into(device, lent))
 }
 
-pub fn write_reply(alloc: Global, mut ask: Arguments<'_>) -> Result<String, Failure> {
+pub fn write_reply(mut ask: Arguments<'_>) -> Result<String, Failure> {
     let device = ask.device();
     let firmware = version(&mut ask);
     let voice = version(&mut ask);
@@ -94,11 +87,7 @@ pub fn write_reply(alloc: Global, mut ask: Arguments<'_>) -> Result<String, Fail
         firmware,
         voice,
     };
-    written(
-        alloc,
-        ask,
-        |lent| inquiry::reply::reply_into(identity, lent),
-    )
+    written(ask, |lent| inquiry::reply::reply_into(identity, lent))
 }
 
 fn version(ask: &mut Arguments<'_>) -> Version {

@@ -5,7 +5,6 @@ use crate::{streams, sysex, wires};
 use command::Command;
 use ids::{Bank, DeviceId, Interface, PatternNumber, ProgramNumber, ProtocolVersion};
 use refusal::OfByte;
-use std::alloc::Global;
 use wire::{Channel, ChannelMessage, Realtime};
 
 // A word that begins a request.
@@ -107,56 +106,56 @@ impl Word {
     }
 
     // What the word says to its arguments.
-    pub(crate) fn answer(self, alloc: Global, ask: Arguments<'_>) -> Result<String, Failure> {
+    pub(crate) fn answer(self, ask: Arguments<'_>) -> Result<String, Failure> {
         match self {
-            Word::Bank => small::<Bank>(alloc, ask),
-            Word::Program => small::<ProgramNumber>(alloc, ask),
-            Word::Pattern => small::<PatternNumber>(alloc, ask),
-            Word::Version => small::<ProtocolVersion>(alloc, ask),
-            Word::Device => small::<DeviceId>(alloc, ask),
-            Word::Channel => small::<Channel>(alloc, ask),
-            Word::Interface => small::<Interface>(alloc, ask),
-            Word::Command => small::<Command>(alloc, ask),
-            Word::RawLen => raw_len(alloc, ask),
-            Word::DataLen => data_len(alloc, ask),
-            Word::Realtime => realtime(alloc, ask),
-            Word::PackedLen => wires::packed_len(alloc, ask),
-            Word::UnpackedLen => wires::unpacked_len(alloc, ask),
-            Word::Pack => wires::turned(alloc, ask, packed::packing::pack_into),
-            Word::Unpack => wires::turned(alloc, ask, packed::unpacking::unpack_into),
-            Word::Chan => wires::channel_message(alloc, ask),
-            Word::Feed => streams::feed(alloc, ask),
-            Word::Chunks => streams::chunks(alloc, ask),
-            Word::Frame => sysex::frame(alloc, ask),
-            Word::FrameWrite => sysex::frame_write(alloc, ask),
-            Word::ReadBack => sysex::read_back(alloc, ask),
-            Word::InquiryRequest => wires::inquiry_request(alloc, ask),
-            Word::InquiryReply => wires::inquiry_reply(alloc, ask),
-            Word::WriteRequest => wires::write_request(alloc, ask),
-            Word::WriteReply => wires::write_reply(alloc, ask),
+            Word::Bank => small::<Bank>(ask),
+            Word::Program => small::<ProgramNumber>(ask),
+            Word::Pattern => small::<PatternNumber>(ask),
+            Word::Version => small::<ProtocolVersion>(ask),
+            Word::Device => small::<DeviceId>(ask),
+            Word::Channel => small::<Channel>(ask),
+            Word::Interface => small::<Interface>(ask),
+            Word::Command => small::<Command>(ask),
+            Word::RawLen => raw_len(ask),
+            Word::DataLen => data_len(ask),
+            Word::Realtime => realtime(ask),
+            Word::PackedLen => wires::packed_len(ask),
+            Word::UnpackedLen => wires::unpacked_len(ask),
+            Word::Pack => wires::turned(ask, packed::packing::pack_into),
+            Word::Unpack => wires::turned(ask, packed::unpacking::unpack_into),
+            Word::Chan => wires::channel_message(ask),
+            Word::Feed => streams::feed(ask),
+            Word::Chunks => streams::chunks(ask),
+            Word::Frame => sysex::frame(ask),
+            Word::FrameWrite => sysex::frame_write(ask),
+            Word::ReadBack => sysex::read_back(ask),
+            Word::InquiryRequest => wires::inquiry_request(ask),
+            Word::InquiryReply => wires::inquiry_reply(ask),
+            Word::WriteRequest => wires::write_request(ask),
+            Word::WriteReply => wires::write_reply(ask),
         }
     }
 }
 
 // A byte read as a small number or a name, and written back.
-fn small<T: OfByte>(alloc: Global, mut ask: Arguments<'_>) -> Result<String, Failure> {
-    ok(alloc, T::from_byte(ask.byte())?.to_byte())
+fn small<T: OfByte>(mut ask: Arguments<'_>) -> Result<String, Failure> {
+    ok(ask.alloc, T::from_byte(ask.byte())?.to_byte())
 }
 
-fn raw_len(alloc: Global, mut ask: Arguments<'_>) -> Result<String, Failure> {
+fn raw_len(mut ask: Arguments<'_>) -> Result<String, Failure> {
     ok(
-        alloc,
+        ask.alloc,
         ProtocolVersion::from_byte(ask.byte())?.program_data_len(),
     )
 }
 
-fn data_len(alloc: Global, mut ask: Arguments<'_>) -> Result<String, Failure> {
-    ok_or_none(alloc, ChannelMessage::data_len_for(ask.byte()))
+fn data_len(mut ask: Arguments<'_>) -> Result<String, Failure> {
+    ok_or_none(ask.alloc, ChannelMessage::data_len_for(ask.byte()))
 }
 
-fn realtime(alloc: Global, mut ask: Arguments<'_>) -> Result<String, Failure> {
+fn realtime(mut ask: Arguments<'_>) -> Result<String, Failure> {
     ok_or_none(
-        alloc,
+        ask.alloc,
         Realtime::from_status(ask.byte()).map(|message| message.to_status()),
     )
 }
