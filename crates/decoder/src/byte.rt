@@ -33,7 +33,7 @@ pub fn kept(status: u8) -> Option<u8>
     }
 }
 
-// The message of a status byte and its data bytes.
+// The message of a status byte and its data bytes. The three bytes stay three: a struct of them would be made for one call.
 pub fn message(status: u8, first: u8, second: u8) -> Option<Report>
     ensures { result ≡ message_report status first second }
 {

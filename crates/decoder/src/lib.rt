@@ -214,7 +214,7 @@ impl Decoder {
         }
     }
 
-    // A message is whole, with these data bytes.
+    // A message is whole, with these data bytes. The three bytes stay three: a struct of them would be made for one call.
     fn completed(status: u8, first: u8, second: u8) -> Decoder
         ensures { result ≡ completed status first second }
     {

@@ -203,6 +203,7 @@ impl Head {
     }
 
     // The message of a command and its fields, which were tested before; a field that the command lacks is passed over.
+    // Command and fields stay two, since the two in one are a Head.
     pub fn from_tested(command: Command, fields: Fields) -> Head
         ensures { result ≡ head_from command fields }
     {

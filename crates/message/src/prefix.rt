@@ -59,7 +59,7 @@ fn padded(len: usize, bytes: [u8; PREFIX_MAX]) -> Prefix
     Prefix { len, bytes }
 }
 
-// The payload bytes ahead of the run, from the fields that the command has.
+// The payload bytes ahead of the run, from the fields that the command has. Command and fields stay two, since the two in one are a Head.
 pub fn prefix_of(command: Command, fields: Fields) -> Prefix
     ensures { Padded (prefix_of command fields) result.len result.bytes }
 {
@@ -120,6 +120,7 @@ pub fn check_small(fields: Fields) -> Result<Fields, Refusal>
 }
 
 // The fields that a command has, in wire order: the version first, 8, then the others. What the command lacks comes back as 0.
+// Command and fields stay two, since the two in one are a Head.
 pub fn check(command: Command, fields: Fields) -> Result<Fields, Refusal>
     ensures { answered result ≡ checked_fields command fields }
 {

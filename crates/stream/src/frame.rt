@@ -12,6 +12,7 @@ use octets::words::{TOPS, WORD, put_word, word_at};
 
 // Copies data bytes to the front of a buffer by whole words, until a word has another byte. Answers how many.
 // `data_run` and then one copy was tried, and is slower for runs below 50 bytes: 6.8 ns for 10 bytes, where this takes 4.9.
+// The two slices stay two: a struct of them would be made for one call.
 fn moved_words(from: &[u8], to: &mut [u8]) -> usize
     requires { length from.now ≤ length to.old }
     ensures { Copied result from.now to.old to.new }
@@ -28,7 +29,7 @@ fn moved_words(from: &[u8], to: &mut [u8]) -> usize
     words * WORD
 }
 
-// Copies the data bytes ahead of the first other byte to the front of a buffer. Answers how many.
+// Copies the data bytes ahead of the first other byte to the front of a buffer. Answers how many. The two slices stay two: a struct of them would be made for one call.
 #[tactic(auto, using(octets::proofs::data_bytes::Runs::run_ends, octets::proofs::data_bytes::Runs::run_within))]
 fn moved_run(from: &[u8], to: &mut [u8]) -> usize
     requires { length from.now ≤ length to.old }
@@ -55,7 +56,7 @@ fn moved(at: usize, used: usize, store: &mut [u8; MAX_SYSEX_LEN], bytes: &[u8]) 
 }
 
 // A byte below F8 behind a run, in a frame of so many bytes. A status byte 80 to F6 breaks the frame off: 18, then what it does itself. F7 ends it,
-// within the limit; a data byte has no room left.
+// within the limit; a data byte has no room left. State and store stay two, as C lends them; in a struct each would stand a reference further away.
 #[tactic(auto, using(decoder::proofs::Limit::limit_is))]
 fn ends(
     byte: u8,
@@ -89,6 +90,7 @@ fn ends(
 }
 
 // The rest of a call, behind the bytes used so far, in an open frame of so many bytes. The index is counted by hand, since a run is moved at once.
+// State and store stay two, as C lends them; in a struct each would stand a reference further away.
 #[tactic(auto, using(decoder::proofs::Limit::limit_is))]
 pub fn read(
     start: usize,

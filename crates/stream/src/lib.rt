@@ -44,6 +44,7 @@ pub const COMMON: u64 = 3;
 pub const REALTIME: u64 = 4;
 
 // A call whose state and store have the lengths that they should. The frame's length is cast, since no From leads from u32 to usize.
+// State and store stay two, as C lends them; in a struct each would stand a reference further away.
 fn feed_lent(
     state: &mut [u8; STATE_LEN],
     store: &mut [u8; MAX_SYSEX_LEN],

@@ -84,6 +84,7 @@ impl ChannelMessage {
     }
 
     // The message of a status byte and its data; of one-byte messages the second byte is not read.
+    // The three bytes stay three: a struct of them would be made for one call.
     pub fn from_bytes(status: u8, first: u8, second: u8) -> Option<ChannelMessage>
         ensures { result ≡ channel_message status first second }
     {
