@@ -45,6 +45,10 @@ pub record Closed (w : Walked) (bytes state store : List ℕ) (m a i : ℕ) : Ty
   pub numbers : Outside m a (get_or state 13 0)
   pub on : On w bytes (closed_by m a (get_or state 13 0)) store i
 
+-- a run within so many bytes is part of the run
+pub part_of_run : (most n : ℕ) (l : List ℕ) → n ≡ data_run (take most l) → n ≤ data_run l
+part_of_run most n l e = omega (arith, e, run_take l most)
+
 -- in a frame: its length says the state that the walk has come to
 pub record Open (w : Walked) (bytes state store : List ℕ) (at i : ℕ) : Type 0 where
   pub free : MiddleFree state
@@ -218,15 +222,15 @@ module _ {w : Walked} {state₀ store₀ bytes state store : List ℕ} {at m a i
           (on_quiet w bytes (closed_by m a (get_or state 13 0)) store i here.on more (closed_by m a (get_or state 13 0)) store q.0 q.1)
 
       -- stray data bytes are passed over
-      pub stray_on : get_or bytes i 0 < 0x80 → m ≡ 0 → (most n : ℕ) → n ≡ data_run (take most (drop (i + 1) bytes)) → Reached w state₀ store₀ bytes state store at m a (i + 1 + n)
-      stray_on low e most n run =
+      pub stray_on : get_or bytes i 0 < 0x80 → m ≡ 0 → (n : ℕ) → n ≤ data_run (drop (i + 1) bytes) → Reached w state₀ store₀ bytes state store at m a (i + 1 + n)
+      stray_on low e n run =
           let d = closed_by m a (get_or state 13 0) in
           let nothing : (closed_by m a (get_or state 13 0)).status ≡ None = rw (eq-eqb m 0 e) in
           let eqs = data_plain d store (get_or bytes i 0) refl in
           let q = step_by k.Data d store (get_or bytes i 0) (class_is (get_or bytes i 0) k.Data low) (silent d) store
           (ap (λ (v : Option ℕ). collect v d (get_or bytes i 0)) (sym nothing) ∙ sym eqs.0) (sym eqs.1) in
           let one = on_quiet w bytes d store i here.on more d store q.0 q.1 in
-          let all = on_stray w bytes d store (i + 1) one refl nothing n (omega (arith, run, run_take (drop (i + 1) bytes) most)) in
+          let all = on_stray w bytes d store (i + 1) one refl nothing n run in
           still m a (i + 1 + n) all.within here.numbers all
 
       -- F0 leads on to a frame

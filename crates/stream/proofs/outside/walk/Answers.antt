@@ -7,7 +7,7 @@ use Rattle.decoder.specs.Call.{walk}
 use Rattle.decoder.proofs.Limit.{limit_is, room_for_three}
 use Rattle.stream.specs.State.{state_of}
 use Rattle.stream.proofs.OutsideSteps.{first_leads, held_leads, cleared_leads, status_stays, status_back, under_one, under_two, second_ends, only_ends}
-use Rattle.stream.proofs.Reached.{Reached, walk_begins, outside_ends, outside_answers, outside_realtime, outside_tune, leads_on, unnamed_on, stray_on, opens_on}
+use Rattle.stream.proofs.Reached.{Reached, walk_begins, outside_ends, outside_answers, outside_realtime, outside_tune, leads_on, unnamed_on, stray_on, opens_on, part_of_run}
 use Rattle.stream.proofs.outside.walk.Goals as goal
 
 pub loop-at-init : goal.loop-at-init
@@ -22,14 +22,14 @@ pub overflow_add-i-then-middle-eq0 : goal.overflow_add-i-then-middle-eq0
 overflow_add-i-then-middle-eq0 c =
     let l = c.loop-at in
     let more : l.i < length c.args.bytes.now = omega (arith, l.invariant.within) in
-    let on = stray_on l.invariant c.loop-at-test.true more (omega arith) c.if-middle-eq0.true _ _ c.data_run-i.ensures in
+    let on = stray_on l.invariant c.loop-at-test.true more (omega arith) c.if-middle-eq0.true _ (part_of_run _ _ _ c.data_run-i.ensures) in
     omega (arith, on.within)
 
 pub loop-at-preserved-then-middle-eq0 : goal.loop-at-preserved-then-middle-eq0
 loop-at-preserved-then-middle-eq0 c =
     let l = c.loop-at in
     let more : l.i < length c.args.bytes.now = omega (arith, l.invariant.within) in
-    stray_on l.invariant c.loop-at-test.true more (omega arith) c.if-middle-eq0.true _ _ c.data_run-i.ensures
+    stray_on l.invariant c.loop-at-test.true more (omega arith) c.if-middle-eq0.true _ (part_of_run _ _ _ c.data_run-i.ensures)
 
 pub returns-then-middle-ge-PENDING : goal.returns-then-middle-ge-PENDING
 returns-then-middle-ge-PENDING c =
