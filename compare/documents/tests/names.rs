@@ -216,7 +216,7 @@ fn the_walks_follow_the_calls() {
         ("`read_header` in", "`run_of` in"),
         ("`moved` in", "`broken` in"),
         ("`stream::feed` in", "`STATE_LEN` in"),
-        ("`put_frame` in", "`encode_into` in"),
+        ("`Parts::put` in", "`encode_into` in"),
     ] {
         assert!(document.contains(from), "'{from}' is not in the document");
         assert_ne!(astray(&document.replacen(from, to, 1)), Vec::<String>::new(), "'{to}' for '{from}' was not seen");

@@ -3,6 +3,8 @@
 
 ghost use Rattle.std.specs.Prelude.{◌≡◌, ◌++◌, ◌+◌, ◌≤◌, length, drop};
 ghost use Rattle.laws.specs.Choice.{pick};
+ghost use Rattle.ids.specs.Device.{device_byte};
+ghost use Rattle.command.specs.Command.{code_of};
 ghost use Rattle.framing.specs.Framing.{first_high};
 ghost use Rattle.message.specs.Prefix.{carries_run};
 ghost use Rattle.refusal.specs.Outcome.{Writes, answered};
@@ -63,43 +65,49 @@ fn put_header(device: u8, code: u8, out: &mut [u8])
     octets::copies::copy_into(&header, out);
 }
 
-// Puts a whole frame to the front of a buffer that has the room.
-fn put_frame(device: u8, code: u8, prefix: &[u8], run: &[u8], out: &mut [u8])
-    requires { 8 + (length prefix.now + length run.now) ≤ length out.old }
-    ensures { out.new ≡ row device code prefix.now run.now ++ drop (8 + (length prefix.now + length run.now)) out.old }
-{
-    put_header(device, code, out);
-    octets::copies::copy_into(prefix, &mut out[7..]);
-    let at = 7 + prefix.len();
-    octets::copies::copy_into(run, &mut out[at..]);
-    let end = at + run.len();
-    out[end] = framing::SYSEX_END;
-}
-
-// The first byte of 80 or above in prefix and run.
-#[tactic(auto, using(framing::proofs::Bytes::high_first, framing::proofs::Bytes::high_append))]
-fn first_high(prefix: &[u8], run: &[u8]) -> Option<u8>
-    ensures { result ≡ first_high (prefix.now ++ run.now) }
-{
-    framing::first_high(prefix).or_else(|| framing::first_high(run))
-}
-
-// A frame whose fields were tested and which has the room: 2, or its bytes.
-fn put_seven_bit(
+// A frame whose fields were tested: whom it is for, its command, and its payload as prefix and run.
+#[derive(Clone, Copy)]
+struct Parts<'a> {
     device: DeviceId,
     command: Command,
-    prefix: &[u8],
-    run: &[u8],
-    out: &mut [u8],
-) -> Result<usize, Refusal>
-    requires { 8 + (length prefix.now + length run.now) ≤ length out.old }
-    ensures { Writes (seven_bit_write device command prefix.now run.now) result out.old out.new }
-{
-    match first_high(prefix, run) {
-        Some(byte) => Err(Refusal::NotSevenBit(byte)),
-        None => {
-            put_frame(device.to_byte(), command.to_byte(), prefix, run, out);
-            Ok(OVERHEAD_LEN + prefix.len() + run.len())
+    prefix: &'a [u8],
+    run: &'a [u8],
+}
+
+impl Parts<'_> {
+    // Puts the whole frame to the front of a buffer that has the room.
+    fn put(self, out: &mut [u8])
+        requires { 8 + (length self.prefix.now + length self.run.now) ≤ length out.old }
+        ensures { out.new ≡ row (device_byte self.entry.device) (code_of self.entry.command) self.entry.prefix.now self.entry.run.now ++ drop (8 + (length self.entry.prefix.now + length self.entry.run.now)) out.old }
+    {
+        put_header(self.device.to_byte(), self.command.to_byte(), out);
+        octets::copies::copy_into(self.prefix, &mut out[7..]);
+        let at = 7 + self.prefix.len();
+        octets::copies::copy_into(self.run, &mut out[at..]);
+        let end = at + self.run.len();
+        out[end] = framing::SYSEX_END;
+    }
+
+    // The first byte of 80 or above in prefix and run.
+    #[tactic(auto, using(framing::proofs::Bytes::high_first, framing::proofs::Bytes::high_append))]
+    fn first_high(self) -> Option<u8>
+        ensures { result ≡ first_high (self.entry.prefix.now ++ self.entry.run.now) }
+    {
+        framing::first_high(self.prefix).or_else(|| framing::first_high(self.run))
+    }
+
+    // Into a buffer that has the room: 2, or the frame's bytes.
+    #[tactic(auto, using(crate::proofs::Answers::seven_refused, crate::proofs::Answers::seven_written))]
+    fn put_seven_bit(self, out: &mut [u8]) -> Result<usize, Refusal>
+        requires { 8 + (length self.prefix.now + length self.run.now) ≤ length out.old }
+        ensures { Writes (seven_bit_write self.entry.device self.entry.command self.entry.prefix.now self.entry.run.now) result out.old out.new }
+    {
+        match self.first_high() {
+            Some(byte) => Err(Refusal::NotSevenBit(byte)),
+            None => {
+                self.put(out);
+                Ok(OVERHEAD_LEN + self.prefix.len() + self.run.len())
+            }
         }
     }
 }
@@ -119,13 +127,13 @@ fn write_fields(
     let needed = frame_len(command, prefix.len, run.len())?;
     refusal::room(needed, out.len())?;
     let own = own_len(command, run.len());
-    put_seven_bit(
+    let parts = Parts {
         device,
         command,
-        &prefix.bytes[..prefix.len],
-        &run[..own],
-        out,
-    )
+        prefix: &prefix.bytes[..prefix.len],
+        run: &run[..own],
+    };
+    parts.put_seven_bit(out)
 }
 
 // Writes a message beside its run. Refuses 5, then as write_fields; it looks at no run length.
