@@ -113,6 +113,7 @@ impl Parts<'_> {
 }
 
 // Behind device and command: fields 8, 12, 9, 10, 11 in wire order, length 22, room 14, then 2.
+// Command and fields stay two, since the two in one are a Head.
 fn write_fields(
     device: DeviceId,
     command: Command,
