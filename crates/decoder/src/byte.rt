@@ -1,5 +1,5 @@
 // One byte: its class, the message that it completes, and what a step gives back.
-ghost use Rattle.std.specs.Prelude.{◌≡◌};
+ghost use Rattle.std.specs.Prelude.{◌≡◌, false};
 ghost use Rattle.wire.specs.RealTime.{realtime_of};
 ghost use Rattle.decoder.specs.Step.{class_of, message_report, common_report, realtime_report, kept, silent, reporting, too_long, interrupting};
 ghost use Rattle.decoder.specs.Call.{reports};
@@ -33,7 +33,7 @@ pub fn kept(status: u8) -> Option<u8>
     }
 }
 
-// The message of a status byte and its data bytes. The three bytes stay three: a struct of them would be made for one call.
+// The message of a status byte and its data bytes. The three bytes stay three: a struct would be made of them and taken apart again.
 pub fn message(status: u8, first: u8, second: u8) -> Option<Report>
     ensures { result ≡ message_report status first second }
 {
@@ -54,35 +54,34 @@ pub fn realtime(byte: u8) -> Option<Report>
     Realtime::from_status(byte).map(|message| Report::Realtime(message))
 }
 
-pub fn silent(state: Decoder) -> Stepped
-    ensures { result ≡ silent state }
+// A step that breaks off no frame.
+pub fn told(state: Decoder, report: Option<Report>) -> Stepped
+    ensures { result ≡ record { state = state; interrupted = false; report = report } }
 {
     Stepped {
         state,
         interrupted: false,
-        report: None,
+        report,
     }
+}
+
+pub fn silent(state: Decoder) -> Stepped
+    ensures { result ≡ silent state }
+{
+    told(state, None)
 }
 
 pub fn reporting(state: Decoder, report: Report) -> Stepped
     ensures { result ≡ reporting state report }
 {
-    Stepped {
-        state,
-        interrupted: false,
-        report: Some(report),
-    }
+    told(state, Some(report))
 }
 
 // A byte beyond the limit drops the frame.
 pub fn too_long(state: Decoder) -> Stepped
     ensures { result ≡ too_long state }
 {
-    Stepped {
-        state: state.cleared(),
-        interrupted: false,
-        report: Some(Report::SysExTooLong(MAX_SYSEX_LEN)),
-    }
+    reporting(state.cleared(), Report::SysExTooLong(MAX_SYSEX_LEN))
 }
 
 // A status byte below F7 breaks off an open frame.

@@ -68,7 +68,8 @@ pub enum Report {
     SysExTooLong(usize),
 }
 
-// What one byte does to the state, and what it reports: SysExInterrupted first, where it broke off a frame, then its own effect.
+// What one byte does to the state, and what it reports: SysExInterrupted first, where it broke off a frame, then its own effect. The flag stands beside
+// the report, since a struct of the two would put each definition that names them one field further away.
 #[derive(Clone, Copy, Debug, PartialEq, Eq)]
 pub struct Stepped {
     pub state: Decoder,
@@ -76,7 +77,7 @@ pub struct Stepped {
     pub report: Option<Report>,
 }
 
-// What a call did: the bytes that it used, the state after them, and the reports of the last of them. The flag and the report stand as in Stepped; a
+// What a call did: the bytes that it used, the state after them, and the reports of the last of them. The flag stands beside the report, since a
 // struct of the two would put each definition that names them one field further away.
 #[derive(Clone, Copy, Debug, PartialEq, Eq)]
 pub struct Fed {
@@ -214,7 +215,7 @@ impl Decoder {
         }
     }
 
-    // A message is whole, with these data bytes. The three bytes stay three: a struct of them would be made for one call.
+    // A message is whole, with these data bytes. The three bytes stay three: a struct would be made of them and taken apart again.
     fn completed(status: u8, first: u8, second: u8) -> Decoder
         ensures { result ≡ completed status first second }
     {
@@ -234,18 +235,16 @@ impl Decoder {
             None => byte::silent(self),
             Some(status) => {
                 if self.have != 0 {
-                    return Stepped {
-                        state: Decoder::completed(status, self.data0, byte),
-                        interrupted: false,
-                        report: byte::message(status, self.data0, byte),
-                    };
+                    return byte::told(
+                        Decoder::completed(status, self.data0, byte),
+                        byte::message(status, self.data0, byte),
+                    );
                 }
                 if wire::data_len(status) <= 1 {
-                    return Stepped {
-                        state: Decoder::completed(status, byte, self.data1),
-                        interrupted: false,
-                        report: byte::message(status, byte, 0),
-                    };
+                    return byte::told(
+                        Decoder::completed(status, byte, self.data1),
+                        byte::message(status, byte, 0),
+                    );
                 }
                 byte::silent(self.waiting(status, byte))
             }
@@ -291,11 +290,7 @@ impl Decoder {
                 }
                 byte::too_long(self)
             }
-            Class::Realtime => Stepped {
-                state: self,
-                interrupted: false,
-                report: byte::realtime(byte),
-            },
+            Class::Realtime => byte::told(self, byte::realtime(byte)),
         }
     }
 

@@ -1,4 +1,4 @@
-// The decoder with its state changed in place: thin calls over the calls that take the state by value.
+// The decoder with its state changed in place: calls over those that take the state by value, and one call with what is left of a piece.
 #![tactic(auto)]
 
 ghost use Rattle.std.specs.Prelude.{◌≡◌};
@@ -9,8 +9,8 @@ ghost use Rattle.decoder_in_place.specs.InPlace.{FeedsInPlace, FeedsFront};
 use decoder::{Decoder, Report};
 use refusal::Refusal;
 
-// What a call did: the bytes that it used, and the reports of the last of them. Flag and report stand side by side, as in decoder's Fed, so that
-// taken_of and whoever reads them name each by one field.
+// What a call did: the bytes that it used, and the reports of the last of them. The flag stands beside the report, since a struct of the
+// two would put each definition that names them one field further away.
 #[derive(Clone, Copy, Debug, PartialEq, Eq)]
 pub struct Taken {
     pub used: usize,

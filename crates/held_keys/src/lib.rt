@@ -8,8 +8,8 @@ ghost use Rattle.held_keys.specs.Record.{no_keys, record_after};
 
 pub mod bytes;
 
-use refusal::Refusal;
-use wire::{CHANNEL_COUNT, Channel, ChannelMessage};
+use refusal::{OfByte, Refusal};
+use wire::{Channel, ChannelMessage};
 
 // For each of 16 channels two words, a bit for each of 128 keys: key k is bit k % 64 of word k / 64.
 pub type HeldKeys = [[u64; 2]; 16];
@@ -65,9 +65,7 @@ fn changed(mut keys: HeldKeys, at: usize, message: ChannelMessage) -> HeldKeys
 pub fn apply(keys: &mut HeldKeys, channel: Channel, message: ChannelMessage) -> Result<(), Refusal>
     ensures { (key_told result ≡ key_answer channel.0) × (keys.new ≡ record_after keys.old channel.0 message) }
 {
-    if CHANNEL_COUNT <= channel.0 {
-        return Err(Refusal::ChannelOutOfRange(channel.0));
-    }
+    Channel::from_byte(channel.0)?;
     *keys = changed(*keys, usize::from(channel.0), message);
     Ok(())
 }

@@ -282,22 +282,16 @@ impl Head {
     pub fn version(self) -> Option<ProtocolVersion>
         ensures { result ≡ version_of_head self }
     {
-        if self.command().carries_run() {
-            Some(ProtocolVersion(self.to_fields().version))
-        } else {
-            None
-        }
+        self.command()
+            .carries_run()
+            .then_some(ProtocolVersion(self.to_fields().version))
     }
 }
 
 fn tested_pattern(has: bool, number: u8) -> Option<PatternNumber>
     ensures { result ≡ pattern_at has number }
 {
-    if has {
-        Some(PatternNumber(number))
-    } else {
-        None
-    }
+    has.then_some(PatternNumber(number))
 }
 
 // The frame of plain numbers. Refuses 5, 6, then 8, 12, 9, 10, 11 in wire order.

@@ -12,7 +12,7 @@ use octets::words::{TOPS, WORD, put_word, word_at};
 
 // Copies data bytes to the front of a buffer by whole words, until a word has another byte. Answers how many.
 // `data_run` and then one copy was tried, and is slower for runs below 50 bytes: 6.8 ns for 10 bytes, where this takes 4.9.
-// The two slices stay two: a struct of them would be made for one call.
+// The two slices stay two: a struct would be made of them and taken apart again.
 fn moved_words(from: &[u8], to: &mut [u8]) -> usize
     requires { length from.now ≤ length to.old }
     ensures { Copied result from.now to.old to.new }
@@ -29,7 +29,7 @@ fn moved_words(from: &[u8], to: &mut [u8]) -> usize
     words * WORD
 }
 
-// Copies the data bytes ahead of the first other byte to the front of a buffer. Answers how many. The two slices stay two: a struct of them would be made for one call.
+// Copies the data bytes ahead of the first other byte to the front of a buffer. Answers how many. The two slices stay two: a struct would be made of them and taken apart again.
 #[tactic(auto, using(octets::proofs::data_bytes::Runs::run_ends, octets::proofs::data_bytes::Runs::run_within))]
 fn moved_run(from: &[u8], to: &mut [u8]) -> usize
     requires { length from.now ≤ length to.old }

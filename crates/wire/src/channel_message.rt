@@ -3,8 +3,8 @@ ghost use Rattle.std.specs.Prelude.{◌≡◌, [], ◌∷◌, ◌+◌, length, g
 ghost use Rattle.refusal.specs.Outcome.{Writes};
 ghost use Rattle.wire.specs.ChannelMessage.{channel_data_length, status_nibble, data_bytes, channel_write, channel_message, channel_kind};
 
-use crate::{CHANNEL_COUNT, Channel};
-use refusal::Refusal;
+use crate::Channel;
+use refusal::{OfByte, Refusal};
 
 #[derive(Clone, Copy, Debug, PartialEq, Eq)]
 pub enum ChannelMessage {
@@ -75,16 +75,14 @@ impl ChannelMessage {
     pub fn encode_into(self, channel: Channel, out: &mut [u8]) -> Result<usize, Refusal>
         ensures { Writes (channel_write channel self (length out.old)) result out.old out.new }
     {
-        if CHANNEL_COUNT <= channel.0 {
-            return Err(Refusal::ChannelOutOfRange(channel.0));
-        }
+        Channel::from_byte(channel.0)?;
         let [first, second] = self.data_bytes();
         let bytes = [self.status_nibble() + channel.0, first, second];
         refusal::put(&bytes[..self.encoded_len()], out)
     }
 
     // The message of a status byte and its data; of one-byte messages the second byte is not read.
-    // The three bytes stay three: a struct of them would be made for one call.
+    // The three bytes stay three: a struct would be made of them and taken apart again.
     pub fn from_bytes(status: u8, first: u8, second: u8) -> Option<ChannelMessage>
         ensures { result ≡ channel_message status first second }
     {

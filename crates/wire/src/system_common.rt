@@ -16,7 +16,8 @@ pub enum SystemCommon {
 }
 
 impl SystemCommon {
-    // The message of a status byte and its data, as for channel messages. The three bytes stay three: a struct of them would be made for one call.
+    // The message of a status byte and its data; what the message does not take is not read. The three bytes stay three: a struct would be made of them
+    // and taken apart again.
     pub fn from_bytes(status: u8, first: u8, second: u8) -> Option<SystemCommon>
         ensures { result ≡ common_message status first second }
     {

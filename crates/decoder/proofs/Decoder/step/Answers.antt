@@ -78,4 +78,4 @@ returns-else-at-lt-MAX_SYSEX_LEN c =
 pub returns-in-Realtime : goal.returns-in-Realtime
 returns-in-Realtime c = let a = c.args in
     step_by k.Realtime a.self a.store.now a.byte (sym c.class_of-class.ensures ∙ c.in-Realtime.is) _ _
-    (rw c.realtime.ensures) refl
+    (rw (c.told.ensures, c.realtime.ensures)) refl
