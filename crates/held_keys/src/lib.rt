@@ -19,6 +19,7 @@ pub type HeldKeys = [[u64; 2]; 16];
 pub enum Effect {
     Hold(u8),
     Release(u8),
+    // what a message of every other kind does: an effect too, so no Option of the two
     Nothing,
 }
 

@@ -15,6 +15,7 @@ impl Bank {
     pub const H: Bank = Bank(7);
 }
 
+// An impl of its own: number types differ in name, count and refusal, and a trait that asked each for the three would take as many lines.
 impl OfByte for Bank {
     ghost of_byte = { bank_of };
 

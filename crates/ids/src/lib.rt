@@ -1,7 +1,5 @@
 // The small numbers and names that every frame is made of: each is made from a byte by a call that refuses what is out of range.
 // A value made by hand may still hold any byte, so whoever writes one to the wire tests it again.
-// Bank, program and pattern number have an impl of OfByte each: they differ in type, count and refusal, and a trait that asked each for the three
-// would take as many lines.
 #![tactic(auto)]
 
 pub mod bank;

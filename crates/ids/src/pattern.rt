@@ -15,6 +15,7 @@ impl PatternNumber {
     pub const LAST: PatternNumber = PatternNumber(31);
 }
 
+// An impl of its own: number types differ in name, count and refusal, and a trait that asked each for the three would take as many lines.
 impl OfByte for PatternNumber {
     ghost of_byte = { pattern_of };
 

@@ -15,6 +15,7 @@ impl ProgramNumber {
     pub const LAST: ProgramNumber = ProgramNumber(127);
 }
 
+// An impl of its own: number types differ in name, count and refusal, and a trait that asked each for the three would take as many lines.
 impl OfByte for ProgramNumber {
     ghost of_byte = { program_of };
 

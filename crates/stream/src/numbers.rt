@@ -44,7 +44,7 @@ pub fn put_middle(word: u32, state: &mut [u8; STATE_LEN])
     state[8..12].copy_from_slice(&word.to_le_bytes());
 }
 
-// What waits outside a frame, and the first data byte.
+// What waits outside a frame, and the first data byte. The two stay two: they lie apart in the state.
 pub fn put_waiting(word: u32, first: u8, state: &mut [u8; STATE_LEN])
     ensures { state.new ≡ put_waiting word first state.old }
 {
@@ -85,7 +85,7 @@ pub fn takes_one(status: u8) -> bool
     0xC0 <= status && (status < 0xE0 || status == 0xF1 || status == 0xF3)
 }
 
-// Is this what a status and what is pending under it leave in the third number?
+// Is this what a status and what is pending under it leave in the third number? What waits and the first data byte stay two: they lie apart in the state.
 fn takes_waiting(middle: u32, first: u8) -> bool
     ensures { result ≡ waiting_taken middle first }
 {
@@ -96,7 +96,7 @@ fn takes_waiting(middle: u32, first: u8) -> bool
         && (have == 0 || have == 1 && first <= 127 && takes == 2)
 }
 
-// Does a call take the state that these numbers say?
+// Does a call take the state that these numbers say? What waits and the first data byte stay two: they lie apart in the state.
 pub fn takes(front: u32, above: u32, middle: u32, first: u8) -> bool
     ensures { result ≡ taken front above middle first }
 {

@@ -46,7 +46,8 @@ fn ends_two(held: u32, first: u8, second: u8, used: usize, state: &mut [u8; STAT
     answer::common(status, value, used)
 }
 
-// A call on a state that it takes: in an open frame of so many bytes, or outside one (0) with what waits there and the first data byte. F0 goes over to
+// A call on a state that it takes: in an open frame of so many bytes, or outside one (0) with what waits there and the first data byte. The two
+// are numbers as the state's bytes have them; a type for each would be made and taken apart at every call. F0 goes over to
 // the frame. The index is counted by hand, because a run of data bytes and the two of a message are taken at once. One match for all bytes was tried,
 // and is slower: it tests single values ahead of ranges, and notes under one running status take 1.15 of the original's time.
 // State and store stay two, as C lends them; in a struct each would stand a reference further away.

@@ -38,6 +38,7 @@ impl Channel {
     }
 }
 
+// An impl of its own: number types differ in name, count and refusal, and a trait that asked each for the three would take as many lines.
 impl OfByte for Channel {
     ghost of_byte = { channel_of };
 
