@@ -33,10 +33,10 @@ pub fn dm_capacity() -> u64
 pub fn dm_fresh(state: &mut [u8]) -> Answer
     ensures { Sends (state_write fresh state.old) result state.old state.new }
 {
-    if state.len() != STATE_LEN {
+    let Some(bytes) = state.as_mut_array::<STATE_LEN>() else {
         return Answer::from(Refusal::BadStore);
-    }
-    state::put_state(Decoder::new(), state);
+    };
+    state::put_state(Decoder::new(), bytes);
     Answer::from(Ok(STATE_LEN))
 }
 
@@ -44,10 +44,10 @@ pub fn dm_fresh(state: &mut [u8]) -> Answer
 pub fn dm_reset(state: &mut [u8]) -> Answer
     ensures { Sends (reset_write state.old) result state.old state.new }
 {
-    if state.len() != STATE_LEN {
+    let Some(bytes) = state.as_mut_array::<STATE_LEN>() else {
         return Answer::from(Refusal::BadStore);
-    }
-    state::put_state(state::state_of(state).reset(), state);
+    };
+    state::put_state(state::state_of(bytes).reset(), bytes);
     Answer::from(Ok(STATE_LEN))
 }
 
@@ -55,8 +55,10 @@ pub fn dm_reset(state: &mut [u8]) -> Answer
 pub fn dm_in_sysex(state: &[u8]) -> Answer
     ensures { result ≡ answer_of (open_of state.now) }
 {
-    if !state::is_state(state) {
-        return Answer::from(Refusal::BadStore);
+    match state.as_array::<STATE_LEN>() {
+        Some(bytes) if state::is_state(bytes) => {
+            host_answer::done(u64::from(state::state_of(bytes).in_sysex()))
+        }
+        _ => Answer::from(Refusal::BadStore),
     }
-    host_answer::done(u64::from(state::state_of(state).in_sysex()))
 }

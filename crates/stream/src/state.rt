@@ -1,12 +1,13 @@
 // A decoder's state as STATE_LEN bytes, for the calls that write it fresh, reset it and ask it.
-ghost use Rattle.std.specs.Prelude.{◌≡◌, length};
+ghost use Rattle.std.specs.Prelude.{◌≡◌};
 ghost use Rattle.stream.specs.State.{is_state, state_of, encoded};
 
 use crate::STATE_LEN;
 use decoder::Decoder;
 use octets::{flag_of, words};
 
-// Are these bytes a state's? As many, flags 0 or 1, and no status without its flag; whether it is sound is the decoder's question.
+// Are these bytes a state's? There are STATE_LEN, both flags are 0 or 1, and no status stands without its flag. Whether the
+// state is sound is the decoder's question.
 pub fn is_state(state: &[u8]) -> bool
     ensures { result ≡ is_state state.now }
 {
@@ -14,8 +15,7 @@ pub fn is_state(state: &[u8]) -> bool
 }
 
 // The state that the bytes say. The length is cast, since no From leads from u64 to usize.
-pub fn state_of(state: &[u8]) -> Decoder
-    requires { length state.now ≡ 14 }
+pub fn state_of(state: &[u8; STATE_LEN]) -> Decoder
     ensures { result ≡ state_of state.now }
 {
     Decoder {
@@ -29,8 +29,7 @@ pub fn state_of(state: &[u8]) -> Decoder
 }
 
 // Stores a state's bytes. The length is cast, since no From leads from usize to u64.
-pub fn put_state(d: Decoder, state: &mut [u8])
-    requires { length state.old ≡ 14 }
+pub fn put_state(d: Decoder, state: &mut [u8; STATE_LEN])
     ensures { state.new ≡ encoded d }
 {
     state[0] = flag_of(d.in_sysex);

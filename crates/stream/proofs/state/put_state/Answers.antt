@@ -8,4 +8,4 @@ returns c =
     let a = c.args in
     let status = status_told a.d.status in
     rw (c.put_word.ensures, c.flag_of.ensures, c.flag_of-2.ensures, c.is_some.ensures, c.unwrap_or.ensures, status.0, status.1)
-    (stored_all a.state.now (encoded a.d) c.requires)
+    (stored_all a.state.now (encoded a.d) c.told-state)
