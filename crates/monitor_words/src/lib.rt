@@ -67,10 +67,10 @@ impl fmt::Display for Words<'_> {
 // The line of a report: the place of the byte that gave it, the message's bytes, and its words.
 pub fn line(alloc: Global, place: u64, store: &[u8], report: Report) -> Result<String, AllocError> {
     let mut room = [0u8; 3];
-    let count = short::encode(report, &mut room);
+    let encoded = short::encode(report, &mut room);
     let bytes = match report {
         Report::SysEx(len) => text::front(store, len),
-        _ => text::front(&room, count),
+        _ => encoded,
     };
     let front = format!(in alloc; "{place:<PLACE_WIDTH$}{}", Bytes(bytes))?;
     format!(in alloc; "{front:<WORDS_COLUMN$}{}", Words { store, report })

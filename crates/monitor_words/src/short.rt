@@ -4,15 +4,15 @@ use refusal::Refusal;
 use std::fmt;
 use wire::{Channel, ChannelMessage, CommonStatus, Realtime, SystemCommon};
 
-// Puts the bytes of a message of one to three to the front of a buffer, and answers how many; 0 for any other report.
-pub fn encode(report: Report, bytes: &mut [u8]) -> usize {
+// The bytes of a message of one to three, written to the front of a buffer; none for any other report.
+pub fn encode(report: Report, room: &mut [u8]) -> &[u8] {
     let written = match report {
-        Report::Channel { channel, message } => message.encode_into(channel, bytes),
-        Report::Common(message) => encode_common(message, bytes),
-        Report::Realtime(message) => message.encode_into(bytes),
+        Report::Channel { channel, message } => message.encode_into(channel, room),
+        Report::Common(message) => encode_common(message, room),
+        Report::Realtime(message) => message.encode_into(room),
         Report::SysEx(_) | Report::SysExInterrupted | Report::SysExTooLong(_) => Ok(0),
     };
-    written.unwrap_or(0)
+    text::front(room, written.unwrap_or(0))
 }
 
 fn encode_common(message: SystemCommon, bytes: &mut [u8]) -> Result<usize, Refusal> {
