@@ -6,7 +6,7 @@ use text::Hex;
 use text::refusals::Details;
 
 // Why a word has no `ok`: its arguments were refused, or memory ran out.
-#[derive(Drop)]
+#[derive(Clone, Copy, Debug, PartialEq, Eq)]
 pub enum Failure {
     Refused(Refusal),
     OutOfMemory(AllocError),

@@ -69,6 +69,7 @@ fn tell_channel<W: fmt::Write>(
 }
 
 // How far a stream has come: the decoder and its store, the place of the next byte where places are asked for, and the answer so far.
+// Drop alone, since a String is not copied.
 #[derive(Drop)]
 struct Stream {
     state: Decoder,

@@ -45,7 +45,7 @@ pub fn frame(mut ask: Arguments<'_>) -> Result<String, Failure> {
     read(ask.alloc, ask.bytes()?.as_slice())
 }
 
-// A record as the words `fwrite` and `readback` list it, and its run.
+// A record as the words `fwrite` and `readback` list it, and its run. Drop alone, since a Vec is not copied.
 #[derive(Drop)]
 struct Hand {
     device: DeviceId,

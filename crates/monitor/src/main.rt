@@ -9,7 +9,7 @@ use std::rt::Files;
 use std::{env, fs, io};
 
 // How far the stream has come: the decoder, the store of its open frame, and the place of the next byte. What is shown goes to rt, clock and
-// active sensing only unless it is quiet.
+// active sensing only unless it is quiet. Drop alone, since it holds a reference to the runtime, which is not copied.
 #[derive(Drop)]
 struct Monitor<'a, R> {
     rt: &'a R,

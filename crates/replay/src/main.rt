@@ -41,7 +41,8 @@ impl fmt::Display for Tally {
     }
 }
 
-// A file's records up to now, counted for each word, and together where the bench has no such word.
+// A file's records up to now, counted for each word, and together where the bench has no such word. Drop alone, for the map: it
+// is not copied.
 #[derive(Drop)]
 struct Replay<'a, R> {
     rt: &'a R,
