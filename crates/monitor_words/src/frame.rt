@@ -1,6 +1,6 @@
 // Frames, identity requests and replies, and why a frame is refused.
 use command::Command;
-use ids::DeviceId;
+use ids::{Bank, DeviceId, ProgramNumber};
 use inquiry::identity::NON_REALTIME;
 use inquiry::{Identity, Version};
 use message::{Frame, Head};
@@ -97,6 +97,18 @@ fn command_name(command: Command) -> &'static str {
     }
 }
 
+// A bank and a program of it, each behind a comma.
+#[derive(Clone, Copy)]
+struct InBank(Bank, ProgramNumber);
+
+impl fmt::Display for InBank {
+    fn fmt<W: fmt::Write>(&self, f: &mut fmt::Formatter<W>) -> fmt::Result {
+        let bank = self.0.to_byte();
+        let program = self.1.to_byte();
+        write!(f, ", bank {bank}, program {program}")
+    }
+}
+
 // A message's fields but for the version, each behind a comma.
 #[derive(Clone, Copy)]
 struct Fields(Head);
@@ -107,19 +119,12 @@ impl fmt::Display for Fields {
             Head::ControlAppNotifyRequest { reserved } => write!(f, ", free byte {reserved}"),
             Head::ProgramDumpRequest { bank, program }
             | Head::SingleProgramNameDumpRequest { bank, program }
-            | Head::ProgramDumpResponse { bank, program, .. } => write!(
-                f,
-                ", bank {}, program {}",
-                bank.to_byte(),
-                program.to_byte()
-            ),
-            Head::ProgramBankDumpRequest { bank, first, last } => write!(
-                f,
-                ", bank {}, program {} to {}",
-                bank.to_byte(),
-                first.to_byte(),
-                last.to_byte()
-            ),
+            | Head::ProgramDumpResponse { bank, program, .. } => {
+                write!(f, "{}", InBank(bank, program))
+            }
+            Head::ProgramBankDumpRequest { bank, first, last } => {
+                write!(f, "{} to {}", InBank(bank, first), last.to_byte())
+            }
             Head::BankProgramNamesDumpRequest { bank }
             | Head::BankProgramNamesDumpResponse { bank, .. }
             | Head::SingleProgramNameDumpResponse { bank, .. } => {
@@ -138,9 +143,8 @@ impl fmt::Display for Fields {
                 program,
             } => write!(
                 f,
-                ", bank {}, program {}, receives on {rx_channel}, sends on {tx_channel}, interface {}",
-                bank.to_byte(),
-                program.to_byte(),
+                "{}, receives on {rx_channel}, sends on {tx_channel}, interface {}",
+                InBank(bank, program),
                 interface.to_byte()
             ),
             _ => Ok(()),
