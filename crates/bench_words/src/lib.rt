@@ -34,7 +34,7 @@ impl<'a> Request<'a> {
         }
     }
 
-    // The answer's text; none to another word than the bench's.
+    // The answer's text; it is empty where the word is not one of the bench's.
     pub fn answer(self, alloc: Global) -> Result<String, AllocError> {
         let Some(word) = self.word else {
             return Ok(String::new(alloc));

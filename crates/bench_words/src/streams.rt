@@ -89,7 +89,8 @@ impl Stream {
     }
 
     // Calls until all bytes are used, and then answers true; it stops where a call is refused. Places are u64, to
-    // which no From leads from usize.
+    // which no From leads from usize. The monitor has this loop too: what it does with a report differs, and one function
+    // for both, with a closure for it, would be as long.
     fn take(&mut self, bytes: &[u8]) -> Result<bool, AllocError> {
         let mut rest = bytes;
         while let Some((taken, next)) = decoder_in_place::feed_front(

@@ -38,8 +38,8 @@ pub fn turned<F: FnOnce(&[u8], &mut [u8]) -> Result<usize, Refusal>>(
     written(ask, |lent| write(bytes.as_slice(), lent))
 }
 
-// The message of a nibble and its data, on a channel; a bend is the first number, and what any other nibble stands for: a cast,
-// since From does not narrow.
+// The message of a nibble and its data, on a channel. The first number is a bend's value, and a nibble of no other message makes a bend. The value
+// is cast, since From does not narrow.
 pub fn channel_message(mut ask: Arguments<'_>) -> Result<String, Failure> {
     let nibble = ask.byte();
     let channel = Channel(ask.byte());

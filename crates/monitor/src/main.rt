@@ -47,7 +47,8 @@ impl<'a, R: Print + Eprint + AllocGlobal> Monitor<'a, R> {
     }
 
     // Calls until the piece is used up. It stops where a call is refused, which no call from a fresh decoder is. Places are u64, to which no
-    // From leads from usize.
+    // From leads from usize. The bench's streams have such a loop: they do something else with a report, and a function that both call
+    // with a closure would save no line.
     fn take(&mut self, piece: &[u8]) -> io::Result<()> {
         let mut rest = piece;
         while let Some((taken, next)) = decoder_in_place::feed_front(
