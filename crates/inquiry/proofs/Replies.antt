@@ -1,7 +1,7 @@
 -- Which replies read: just those of the paper's seventeen bytes with a device byte of a unit or of everyone, any firmware, free and voice
 -- bytes.
-use mathlib.Core.Path.{◌≡◌, ap, sym, ◌∙◌}
-use mathlib.Core.Bool.{Bool, ◌&&◌}
+use mathlib.Core.Path.{◌≡◌, refl, ap, sym, ◌∙◌}
+use mathlib.Core.Bool.{Bool, true, false, ◌&&◌}
 use mathlib.Core.List.{List, [], ◌∷◌, ◌++◌}
 use Prim.Native.Nat.{ℕ, ◌+◌, ◌-◌, ◌<◌}
 use native.Mathlib.Omega.{arith}
@@ -10,14 +10,25 @@ use lib.ListN.{length, get_or, take, drop}
 use lib.Seq.{get_or-drop, get_or-take}
 use borrow.Author.Tests.{eqb-true}
 use Rattle.laws.proofs.Tests.{both}
-use Rattle.refusal.specs.Outcome.{gives, unless, and_then}
+use Rattle.refusal.specs.Outcome.{Outcome, gives, unless, and_then}
 use Rattle.refusal.proofs.Given.{passed, passed_on, given_first}
 use Rattle.ids.specs.declared.device.DeviceId.{DeviceId}
 use Rattle.ids.specs.Device.{device_of}
-use Rattle.framing.specs.Framing.{framed, same_bytes, maker}
+use Rattle.framing.specs.Framing.{framed, when_framed, same_bytes, maker}
 use Rattle.framing.proofs.Bytes.{same_is, spelled}
 use Rattle.inquiry.specs.declared.identity.Identity.{Identity}
 use Rattle.inquiry.specs.Reply.{is_reply, identity_at, read_reply}
+
+-- a reply reads as its device does, with the versions behind it
+pub device_first : (bytes : List ℕ)
+    → and_then (when_framed bytes (unless (is_reply bytes) 16 [] (device_of (get_or bytes 2 0)))) (λ d. gives (identity_at d bytes)) ≡ read_reply bytes
+device_first bytes = go (framed bytes) (is_reply bytes) (device_of (get_or bytes 2 0)) (λ d. gives (identity_at d bytes))
+  where
+    go : (t s : Bool) (o : Outcome DeviceId) (next : DeviceId → Outcome Identity)
+        → and_then (unless t 1 [] (unless s 16 [] o)) next ≡ unless t 1 [] (unless s 16 [] (and_then o next))
+    go true true o next = refl
+    go true false o next = refl
+    go false s o next = refl
 
 -- "F0 7E device 06 02 00 20 32 20 00 01 00, firmware, one free byte, two voice bytes, F7"
 abbrev pub reply_row : ℕ → ℕ → ℕ → ℕ → ℕ → List ℕ

@@ -3,7 +3,10 @@
 #![tactic(auto)]
 
 ghost use Rattle.std.specs.Prelude.{◌≡◌, ◌+◌, ◌≤◌, ◌&&◌, eqb, get_or, length, take, drop};
-ghost use Rattle.framing.specs.Framing.{same_bytes};
+ghost use Rattle.refusal.specs.Outcome.{answered, unless};
+ghost use Rattle.refusal.specs.Refusal.{number_of, values_of};
+ghost use Rattle.ids.specs.Device.{device_of};
+ghost use Rattle.framing.specs.Framing.{when_framed, same_bytes};
 
 pub mod identity;
 pub mod reply;
@@ -11,13 +14,27 @@ pub mod request;
 
 use identity::NON_REALTIME;
 pub use identity::{Identity, Version};
+use ids::DeviceId;
+use refusal::{OfByte, Refusal};
 
-// Is a message so long, with the shape behind its device?
-fn has_shape(bytes: &[u8], len: usize, shape: &[u8]) -> bool
+// The device of a framed message that is len long, with the shape behind its device. Refuses 1, then any other message with otherwise, then 5.
+fn device_in(
+    bytes: &[u8],
+    len: usize,
+    shape: &[u8],
+    otherwise: Refusal,
+) -> Result<DeviceId, Refusal>
     requires { 3 + length shape.now ≤ len }
-    ensures { result ≡ (eqb (length bytes.now) len && eqb (get_or bytes.now 1 0) 0x7E && same_bytes (take (length shape.now) (drop 3 bytes.now)) shape.now) }
+    ensures { answered result ≡ when_framed bytes.now (unless (eqb (length bytes.now) len && eqb (get_or bytes.now 1 0) 0x7E && same_bytes (take (length shape.now) (drop 3 bytes.now)) shape.now) (number_of otherwise) (values_of otherwise) (device_of (get_or bytes.now 2 0))) }
 {
-    bytes.len() == len
+    if !framing::is_framed(bytes) {
+        return Err(Refusal::Unframed);
+    }
+    let has_shape = bytes.len() == len
         && bytes[1] == NON_REALTIME
-        && framing::same_bytes(&bytes[3..3 + shape.len()], shape)
+        && framing::same_bytes(&bytes[3..3 + shape.len()], shape);
+    if !has_shape {
+        return Err(otherwise);
+    }
+    DeviceId::from_byte(octets::byte_at(bytes, 2))
 }

@@ -1,12 +1,11 @@
 // The universal device inquiry's reply.
 ghost use Rattle.std.specs.Prelude.{◌≡◌, length};
 ghost use Rattle.refusal.specs.Outcome.{answered, Writes};
-ghost use Rattle.inquiry.specs.Reply.{is_reply, read_reply, reply_write};
+ghost use Rattle.inquiry.specs.Reply.{read_reply, reply_write};
 
 use crate::identity::{Identity, NON_REALTIME, Version};
 use framing::MAKER_AND_MODEL;
-use ids::DeviceId;
-use refusal::{OfByte, Refusal};
+use refusal::Refusal;
 
 pub const REPLY_LEN: usize = 17;
 
@@ -23,24 +22,12 @@ const SHAPE: [u8; 9] = [
     0x00,
 ];
 
-// Is a framed message a DeepMind's reply, whatever its device and versions?
-fn is_reply(bytes: &[u8]) -> bool
-    ensures { result ≡ is_reply bytes.now }
-{
-    crate::has_shape(bytes, REPLY_LEN, &SHAPE)
-}
-
 // The identity that a reply tells; voice bytes of 80 and above pass. Refuses 1, 16, 5.
+#[tactic(auto, using(crate::proofs::Replies::device_first))]
 pub fn parse_reply(bytes: &[u8]) -> Result<Identity, Refusal>
     ensures { answered result ≡ read_reply bytes.now }
 {
-    if !framing::is_framed(bytes) {
-        return Err(Refusal::Unframed);
-    }
-    if !is_reply(bytes) {
-        return Err(Refusal::NotAnInquiryResponse);
-    }
-    let device = DeviceId::from_byte(octets::byte_at(bytes, 2))?;
+    let device = crate::device_in(bytes, REPLY_LEN, &SHAPE, Refusal::NotAnInquiryResponse)?;
     Ok(Identity {
         device,
         firmware: Version::from_packed(octets::byte_at(bytes, 12)),
