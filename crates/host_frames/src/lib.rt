@@ -45,52 +45,56 @@ pub struct ReadAnswer {
     pub run_len: u64,
 }
 
-// The numbers of a frame that was read. The run's two are cast, since no From leads from usize to u64.
-fn numbers(read: Located) -> ReadAnswer
-    ensures { result ≡ frame_numbers read.frame.device read.frame.command read.frame.fields read.run.start read.run.len }
-{
-    let Located { frame, run } = read;
-    let Record {
-        device,
-        command,
-        fields,
-    } = frame;
-    ReadAnswer {
-        number: 0,
-        detail0: 0,
-        detail1: 0,
-        detail2: 0,
-        detail3: 0,
-        everyone: host_answer::everyone_of(device),
-        unit: host_answer::unit_of(device),
-        command: u64::from(command.to_byte()),
-        free: u64::from(fields.free),
-        version: u64::from(fields.version),
-        bank: u64::from(fields.bank),
-        program: u64::from(fields.program),
-        last: u64::from(fields.last),
-        pattern: u64::from(fields.pattern),
-        has_pattern: u64::from(fields.has_pattern),
-        interface: u64::from(fields.interface),
-        rx: u64::from(fields.rx),
-        tx: u64::from(fields.tx),
-        run_start: run.start as u64,
-        run_len: run.len as u64,
+// A frame that was read. The run's two are cast, since no From leads from usize to u64.
+impl From<Located> for ReadAnswer {
+    ghost from_gives = { λ read answer. answer ≡ frame_numbers read.frame.device read.frame.command read.frame.fields read.run.start read.run.len };
+
+    fn from(read: Located) -> ReadAnswer {
+        let Located { frame, run } = read;
+        let Record {
+            device,
+            command,
+            fields,
+        } = frame;
+        ReadAnswer {
+            number: 0,
+            detail0: 0,
+            detail1: 0,
+            detail2: 0,
+            detail3: 0,
+            everyone: host_answer::everyone_of(device),
+            unit: host_answer::unit_of(device),
+            command: u64::from(command.to_byte()),
+            free: u64::from(fields.free),
+            version: u64::from(fields.version),
+            bank: u64::from(fields.bank),
+            program: u64::from(fields.program),
+            last: u64::from(fields.last),
+            pattern: u64::from(fields.pattern),
+            has_pattern: u64::from(fields.has_pattern),
+            interface: u64::from(fields.interface),
+            rx: u64::from(fields.rx),
+            tx: u64::from(fields.tx),
+            run_start: run.start as u64,
+            run_len: run.len as u64,
+        }
     }
 }
 
-// The numbers of a frame that was refused.
-fn not_read(e: Refusal) -> ReadAnswer
-    ensures { result ≡ read_answer (refusal e) [] }
-{
-    let why = Answer::from(e);
-    ReadAnswer {
-        number: why.number,
-        detail0: why.detail0,
-        detail1: why.detail1,
-        detail2: why.detail2,
-        detail3: why.detail3,
-        ..ReadAnswer::default()
+// A frame that was refused, with the refusal's details.
+impl From<Refusal> for ReadAnswer {
+    ghost from_gives = { λ e answer. answer ≡ read_answer (refusal e) [] };
+
+    fn from(e: Refusal) -> ReadAnswer {
+        let why = Answer::from(e);
+        ReadAnswer {
+            number: why.number,
+            detail0: why.detail0,
+            detail1: why.detail1,
+            detail2: why.detail2,
+            detail3: why.detail3,
+            ..ReadAnswer::default()
+        }
     }
 }
 
@@ -99,8 +103,8 @@ pub fn dm_frame_read(bytes: &[u8]) -> ReadAnswer
     ensures { result ≡ read_answer (read_record bytes.now) bytes.now }
 {
     match frame_reader::read_located(bytes) {
-        Err(e) => not_read(e),
-        Ok(read) => numbers(read),
+        Ok(read) => ReadAnswer::from(read),
+        Err(e) => ReadAnswer::from(e),
     }
 }
 

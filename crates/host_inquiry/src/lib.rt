@@ -3,12 +3,15 @@
 
 ghost use Rattle.std.specs.Prelude.{◌≡◌, leb, length};
 ghost use Rattle.host_answer.specs.Answer.{SendsIf};
+ghost use Rattle.refusal.specs.Outcome.{gives, refusal};
 ghost use Rattle.inquiry.specs.Request.{read_request};
 ghost use Rattle.inquiry.specs.Reply.{read_reply, reply_write};
 ghost use Rattle.host_inquiry.specs.Identity.{request_answer, reply_answer, identity_from, RequestSent};
 
 use host_answer::Answer;
+use ids::DeviceId;
 use inquiry::{Identity, Version};
+use refusal::Refusal;
 
 // What a request tells, in numbers for C. number: 0 where it is read, else document 01's number with its detail, and 0 behind them. everyone: 1 where it asks every
 // unit, and then unit is 0.
@@ -35,25 +38,73 @@ pub struct ReplyAnswer {
     pub voice_minor: u64,
 }
 
+// A request that was read: the device that it asks.
+impl From<DeviceId> for RequestAnswer {
+    ghost from_gives = { λ asked answer. answer ≡ request_answer (gives asked) };
+
+    fn from(asked: DeviceId) -> RequestAnswer {
+        RequestAnswer {
+            number: 0,
+            detail0: 0,
+            everyone: host_answer::everyone_of(asked),
+            unit: host_answer::unit_of(asked),
+        }
+    }
+}
+
+// A request that was refused, with the refusal's detail.
+impl From<Refusal> for RequestAnswer {
+    ghost from_gives = { λ e answer. answer ≡ request_answer (refusal e) };
+
+    fn from(e: Refusal) -> RequestAnswer {
+        let why = Answer::from(e);
+        RequestAnswer {
+            number: why.number,
+            detail0: why.detail0,
+            ..RequestAnswer::default()
+        }
+    }
+}
+
+// A reply that was read: the identity that it tells.
+impl From<Identity> for ReplyAnswer {
+    ghost from_gives = { λ identity answer. answer ≡ reply_answer (gives identity) };
+
+    fn from(identity: Identity) -> ReplyAnswer {
+        ReplyAnswer {
+            number: 0,
+            detail0: 0,
+            everyone: host_answer::everyone_of(identity.device),
+            unit: host_answer::unit_of(identity.device),
+            major: u64::from(identity.firmware.major),
+            minor: u64::from(identity.firmware.minor),
+            voice_major: u64::from(identity.voice.major),
+            voice_minor: u64::from(identity.voice.minor),
+        }
+    }
+}
+
+// A reply that was refused, with the refusal's detail.
+impl From<Refusal> for ReplyAnswer {
+    ghost from_gives = { λ e answer. answer ≡ reply_answer (refusal e) };
+
+    fn from(e: Refusal) -> ReplyAnswer {
+        let why = Answer::from(e);
+        ReplyAnswer {
+            number: why.number,
+            detail0: why.detail0,
+            ..ReplyAnswer::default()
+        }
+    }
+}
+
 // Refuses 1, 15, 5.
 pub fn dm_request_read(bytes: &[u8]) -> RequestAnswer
     ensures { result ≡ request_answer (read_request bytes.now) }
 {
     match inquiry::request::parse_request(bytes) {
-        Ok(asked) => RequestAnswer {
-            number: 0,
-            detail0: 0,
-            everyone: host_answer::everyone_of(asked),
-            unit: host_answer::unit_of(asked),
-        },
-        Err(e) => {
-            let why = Answer::from(e);
-            RequestAnswer {
-                number: why.number,
-                detail0: why.detail0,
-                ..RequestAnswer::default()
-            }
-        }
+        Ok(asked) => RequestAnswer::from(asked),
+        Err(e) => RequestAnswer::from(e),
     }
 }
 
@@ -62,27 +113,8 @@ pub fn dm_reply_read(bytes: &[u8]) -> ReplyAnswer
     ensures { result ≡ reply_answer (read_reply bytes.now) }
 {
     match inquiry::reply::parse_reply(bytes) {
-        Ok(identity) => {
-            let device = identity.device;
-            ReplyAnswer {
-                number: 0,
-                detail0: 0,
-                everyone: host_answer::everyone_of(device),
-                unit: host_answer::unit_of(device),
-                major: u64::from(identity.firmware.major),
-                minor: u64::from(identity.firmware.minor),
-                voice_major: u64::from(identity.voice.major),
-                voice_minor: u64::from(identity.voice.minor),
-            }
-        }
-        Err(e) => {
-            let why = Answer::from(e);
-            ReplyAnswer {
-                number: why.number,
-                detail0: why.detail0,
-                ..ReplyAnswer::default()
-            }
-        }
+        Ok(identity) => ReplyAnswer::from(identity),
+        Err(e) => ReplyAnswer::from(e),
     }
 }
 
