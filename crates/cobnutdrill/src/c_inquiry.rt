@@ -8,7 +8,7 @@ ghost use Rattle.host_inquiry.specs.Identity.{request_answer, reply_answer, iden
 use host_answer::Answer;
 use host_inquiry::{ReplyAnswer, RequestAnswer};
 
-// Refuses 1, 15, 5.
+// Reads a request for an identity. Refuses 1, 15, 5.
 #[unsafe(no_mangle)]
 pub extern "C" fn dm_request_read(bytes: &[u8]) -> RequestAnswer
     ensures { result ≡ request_answer (read_request bytes.now) }
@@ -16,7 +16,7 @@ pub extern "C" fn dm_request_read(bytes: &[u8]) -> RequestAnswer
     host_inquiry::dm_request_read(bytes)
 }
 
-// Refuses 1, 16, 5.
+// Reads a reply that tells an identity. Refuses 1, 16, 5.
 #[unsafe(no_mangle)]
 pub extern "C" fn dm_reply_read(bytes: &[u8]) -> ReplyAnswer
     ensures { result ≡ reply_answer (read_reply bytes.now) }

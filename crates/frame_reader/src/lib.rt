@@ -36,7 +36,7 @@ pub struct Located {
     pub run: Place,
 }
 
-// Behind framing and high bytes: length 3, maker and model 4, device 5, command 6, payload.
+// What is tested behind framing and high bytes: refusal 3 for the length, 4 for maker and model, 5 for the device, 6 for the command, then the payload's.
 #[tactic(auto, using(crate::proofs::Parts::payload_part))]
 fn read_header(bytes: &[u8]) -> Result<Record, Refusal>
     ensures { answered result ≡ read_header bytes.now }

@@ -74,7 +74,7 @@ impl Payload<'_> {
         }
     }
 
-    // Without a run: its length, 7, then its fields.
+    // Without a run: refusal 7 for the length, then those of the fields.
     fn read_short(self) -> Result<Fields, Refusal>
         requires { carries_run self.command ≡ false }
         ensures { answered result ≡ read_short self.entry.command self.entry.bytes.now }
@@ -86,7 +86,7 @@ impl Payload<'_> {
         message::prefix::check_small(self.fields(false))
     }
 
-    // Behind its version: further prefix 7, run length 7 or 13, then the other fields.
+    // Behind its version: refusal 7 for the rest of the prefix, 7 or 13 for the run's length, then those of the other fields.
     fn read_run(self, version: ProtocolVersion) -> Result<Fields, Refusal>
         requires { version_in self.bytes.now ≡ true }
         ensures { answered result ≡ read_run self.entry.command version.0 self.entry.bytes.now }
@@ -112,7 +112,7 @@ impl Payload<'_> {
         Err(self.wrong_length(expected))
     }
 
-    // With a run: version missing 7, version 8, then the rest.
+    // With a run: refusal 7 where the version is missing, 8 for the version, then those of what stands behind it.
     fn read_dump(self) -> Result<Fields, Refusal>
         ensures { answered result ≡ read_dump self.entry.command self.entry.bytes.now }
     {

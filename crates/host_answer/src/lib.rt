@@ -89,7 +89,7 @@ pub fn read_byte<T: OfByte>(byte: u8) -> Answer
     }
 }
 
-// A device from its two numbers: everyone, 0 or 1, and the unit.
+// A device from its two numbers, everyone, 0 or 1, and the unit: they stay two because C has them so.
 pub fn device_of(everyone: u8, unit: u8) -> DeviceId
     ensures { result ≡ device_from everyone unit }
 {
@@ -99,7 +99,7 @@ pub fn device_of(everyone: u8, unit: u8) -> DeviceId
     DeviceId::Broadcast
 }
 
-// The same, and none for everyone above 1, which no record has.
+// The device that everyone and unit name, and none for everyone above 1, which no record has. C hands the two on as two numbers, so they stay apart.
 pub fn device_named(everyone: u8, unit: u8) -> Option<DeviceId>
     ensures { result ≡ device_named everyone unit }
 {

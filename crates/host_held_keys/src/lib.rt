@@ -32,7 +32,8 @@ pub fn dm_held_fresh(keys: &mut [u8]) -> Answer
     Answer::from(Ok(HELD_LEN))
 }
 
-// Applies a message, given as dm_channel_write takes it. Refuses 20 for the length, NO_RECORD for a nibble that no record names, 17; then nothing is changed.
+// Applies a channel message. nibble: its status with 0 for the channel, 80 to E0. a: a bend's whole value, else the first data byte, in its low eight bits. b: the
+// second data byte of a message other than a bend. Refuses 20 for the length, NO_RECORD for a nibble that no record names, 17; then nothing is changed.
 pub fn dm_held_apply(keys: &mut [u8], nibble: u8, channel: u8, a: u16, b: u8) -> Answer
     ensures { HeldSent (channel_kind nibble a b) channel result keys.old keys.new }
 {

@@ -1,4 +1,4 @@
-// The small numbers, each from a byte: the number inside, or the refusal.
+// The C entry points of the small numbers, each from a byte: the number inside, or the refusal.
 #![tactic(auto)]
 
 ghost use Rattle.std.specs.Prelude.{◌≡◌};

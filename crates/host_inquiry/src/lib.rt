@@ -24,7 +24,8 @@ pub struct RequestAnswer {
     pub unit: u64,
 }
 
-// What a reply tells: the device as above, the firmware's version and the two voice bytes.
+// What a reply tells, in numbers for C. number: 0 for one that was read, and for a refusal document 01's, its detail next to it and 0 in all the rest. everyone: 1
+// for device byte 7F, and then unit is 0. major, minor: the firmware's version. voice_major, voice_minor: the two voice bytes.
 #[repr(C)]
 #[derive(Clone, Copy, Debug, Default, PartialEq, Eq)]
 pub struct ReplyAnswer {
@@ -98,7 +99,7 @@ impl From<Refusal> for ReplyAnswer {
     }
 }
 
-// Refuses 1, 15, 5.
+// Reads an identity request: which device it asks. Refuses 1, 15, 5.
 pub fn dm_request_read(bytes: &[u8]) -> RequestAnswer
     ensures { result ≡ request_answer (read_request bytes.now) }
 {
@@ -108,7 +109,7 @@ pub fn dm_request_read(bytes: &[u8]) -> RequestAnswer
     }
 }
 
-// Refuses 1, 16, 5.
+// Reads an identity reply: which device tells it, and its versions. Refuses 1, 16, 5.
 pub fn dm_reply_read(bytes: &[u8]) -> ReplyAnswer
     ensures { result ≡ reply_answer (read_reply bytes.now) }
 {

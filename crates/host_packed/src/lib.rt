@@ -1,4 +1,4 @@
-// Packed runs.
+// The C entry points of packed runs.
 #![tactic(auto)]
 
 ghost use Rattle.std.specs.Prelude.{◌≡◌, length};

@@ -1,4 +1,4 @@
-// Channel, system common and real-time messages on the wire.
+// The C entry points of channel, system common and real-time messages on the wire.
 #![tactic(auto)]
 
 ghost use Rattle.std.specs.Prelude.{◌≡◌, length};
