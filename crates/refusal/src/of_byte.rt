@@ -5,7 +5,8 @@ ghost use Rattle.refusal.specs.Outcome.{Outcome, gives, answered};
 use crate::Refusal;
 
 // A value that a byte stands for: read from it, or refused with the byte, and written as one. A value made by hand may stand for no byte that
-// is read, so whoever writes one to the wire tests it again. TryFrom and From would have no place for the law.
+// is read, so whoever writes one to the wire tests it again. TryFrom and From would take a trait over the two for the law, and these
+// are the original's names.
 pub trait OfByte: Copy {
     ghost of_byte: { ℕ → Outcome Self };
 
