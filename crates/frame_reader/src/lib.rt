@@ -64,7 +64,7 @@ fn read_header(bytes: &[u8]) -> Result<Record, Refusal>
     })
 }
 
-// The frame as plain fields. Refuses 1, 2, then as read_header.
+// The frame as plain fields. Refuses 1, 2, 3, 4, 5, 6, then by its payload 7, 8, 13, 12, 9, 11.
 #[tactic(auto, using(crate::proofs::Parts::body_part), unfolding(crate::specs::Reader::read_record))]
 pub fn read_record(bytes: &[u8]) -> Result<Record, Refusal>
     ensures { answered result ≡ read_record bytes.now }
@@ -108,7 +108,7 @@ fn place_of(frame: Record, len: usize) -> Place
     }
 }
 
-// The frame as plain fields, and where its run lies. Refuses as read_record.
+// The frame as plain fields, and where its run lies. Refuses 1, 2, 3, 4, 5, 6, then by its payload 7, 8, 13, 12, 9, 11.
 #[tactic(auto, using(crate::proofs::RunPlace::prefix_fits))]
 pub fn read_located(bytes: &[u8]) -> Result<Located, Refusal>
     ensures { answered result ≡ read_located bytes.now }

@@ -137,7 +137,7 @@ fn write_fields(
     parts.put_seven_bit(out)
 }
 
-// Writes a message beside its run. Refuses 5, then as write_fields; it looks at no run length.
+// Writes a message beside its run. Refuses 5, then 8, 12, 9, 10, 11 in wire order, 22, 14, 2; it looks at no run length.
 pub fn encode_into(frame: Frame, run: &[u8], out: &mut [u8]) -> Result<usize, Refusal>
     ensures { Writes (frame_write frame run.now (length out.old)) result out.old out.new }
 {
@@ -151,7 +151,7 @@ pub fn encode_into(frame: Frame, run: &[u8], out: &mut [u8]) -> Result<usize, Re
     )
 }
 
-// Writes plain fields beside a run. Refuses 5, 6, then as write_fields.
+// Writes plain fields beside a run. Refuses 5, 6, then 8, 12, 9, 10, 11 in wire order, 22, 14, 2.
 pub fn write_record(
     device: DeviceId,
     command: u8,
