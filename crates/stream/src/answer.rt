@@ -12,7 +12,7 @@ ghost use Rattle.stream.specs.quick.Bytes.{is_realtime};
 use crate::{CHANNEL, COMMON, FedAnswer, NOTHING, REALTIME, SYSEX};
 use decoder::MAX_SYSEX_LEN;
 
-// One report that no 18 leads. The count of used bytes is cast, since no From leads from usize to u64.
+// An answer with one report, and no report 18 ahead of it. The count of used bytes is cast, since no From leads from usize to u64.
 fn told(used: usize, kind: u64, status: u64, first: u64, second: u64) -> FedAnswer
     ensures { result ≡ record { number = 0; used = used; interrupted = 0; kind = kind; status = status; first = first; second = second } }
 {
@@ -87,7 +87,7 @@ pub fn frame(len: usize, used: usize) -> FedAnswer
     told(used, SYSEX, 0, len as u64, 0)
 }
 
-// 19, with the frame limit: a cast, since no From leads from usize to u64.
+// Report 19 for a frame beyond the limit, with the limit: a cast, since no From leads from usize to u64.
 #[tactic(auto, unfolding(decoder::specs::State::limit))]
 pub fn too_long(used: usize) -> FedAnswer
     ensures { result ≡ numbers_of used false (Some (r.SysExTooLong limit)) }
@@ -95,7 +95,7 @@ pub fn too_long(used: usize) -> FedAnswer
     told(used, 19, 0, MAX_SYSEX_LEN as u64, 0)
 }
 
-// 18 alone.
+// Report 18 and no other: an open frame was broken off.
 pub fn interrupted(used: usize) -> FedAnswer
     ensures { result ≡ numbers_of used true None }
 {
@@ -105,7 +105,7 @@ pub fn interrupted(used: usize) -> FedAnswer
     }
 }
 
-// 18, then a tune request.
+// Report 18, since an open frame was broken off, and then a tune request.
 pub fn interrupted_by_tune(used: usize) -> FedAnswer
     ensures { result ≡ numbers_of used true (Some (r.Common y.TuneRequest)) }
 {
