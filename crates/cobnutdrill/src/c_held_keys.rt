@@ -15,9 +15,8 @@ pub extern "C" fn dm_held_fresh(keys: &mut [u8]) -> Answer
     host_held_keys::dm_held_fresh(keys)
 }
 
-// Applies a channel message to the record. nibble: its status, 80 to E0, the channel left out. a: the value of a bend, or of any other message the first data
-// byte, eight bits of it. b: the second data byte, not looked at for a bend. Refuses 20 for the length, NO_RECORD for a nibble that no record names, 17; then the
-// record stays.
+// Applies a channel message. nibble: its status with 0 for the channel, 80 to E0. a: a bend's whole value, else the first data byte, in its low eight bits. b: the
+// second data byte of a message other than a bend. Refuses 20 for the length, NO_RECORD for a nibble that no record names, 17; then nothing is changed.
 #[unsafe(no_mangle)]
 pub extern "C" fn dm_held_apply(keys: &mut [u8], nibble: u8, channel: u8, a: u16, b: u8) -> Answer
     ensures { HeldSent (channel_kind nibble a b) channel result keys.old keys.new }

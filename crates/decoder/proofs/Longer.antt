@@ -5,8 +5,9 @@ use mathlib.Core.List.{List, [], ◌∷◌, ◌++◌}
 use Prim.Native.Nat.{ℕ, ◌≤◌}
 use native.Mathlib.Omega.{arith}
 use lib.Dec.{ltb}
-use lib.ListN.{length, set, take, drop, take-append-drop}
+use lib.ListN.{length, set, drop, take-append-drop}
 use borrow.Author.Tests.{ltb-true}
+use Rattle.std.specs.Array.{IsFirstChunk}
 use Rattle.std.proofs.lemmas.List.{length-take-le, set-append_left}
 use Rattle.laws.specs.Choice.{pick}
 use Rattle.decoder.specs.declared.Decoder.{Decoder}
@@ -63,18 +64,22 @@ module _ (rest : List ℕ) where
       go true n o = ap (stopped (step d b)) o
       go false n o = ap (further 1) n
 
+-- the front of a store and the rest behind it are the store
+pub front_back : (store front : List ℕ) (n : ℕ) → IsFirstChunk store front n → front ++ drop n store ≡ store
+front_back store front n c = ap (λ (l : List ℕ). l ++ drop n store) c.same ∙ take-append-drop n store
+
 -- the walk over a store's first n bytes, with the rest as it was, is the walk over the store
-pub walk_front : (d : Decoder) (store front bytes : List ℕ) (n : ℕ) → limit ≤ n → n ≤ length store → front ≡ take n store
+pub walk_front : (d : Decoder) (store front bytes : List ℕ) (n : ℕ) → IsFirstChunk store front n → limit ≤ n
     → walk d store bytes ≡ longer_by (drop n store) (walk d front bytes)
-walk_front d store front bytes n enough long is =
-    ap (λ (l : List ℕ). walk d l bytes) (sym (take-append-drop n store) ∙ ap (λ (l : List ℕ). l ++ drop n store) (sym is))
-    ∙ walk_longer (drop n store) bytes d front (omega (arith, length-take-le n store long, ap length is))
+walk_front d store front bytes n c enough =
+    ap (λ (l : List ℕ). walk d l bytes) (sym (front_back store front n c))
+    ∙ walk_longer (drop n store) bytes d front (omega (arith, length-take-le n store c.enough, ap length c.same))
 
 -- what the code's walk over the front leaves, with the rest behind it
-pub walks_front : (d : Decoder) (store front bytes : List ℕ) (n : ℕ) → limit ≤ n → n ≤ length store → front ≡ take n store → (fed : Fed) (afterwards : List ℕ)
+pub walks_front : (d : Decoder) (store front bytes : List ℕ) (n : ℕ) → IsFirstChunk store front n → limit ≤ n → (fed : Fed) (afterwards : List ℕ)
     → Walks (walk d front bytes) fed afterwards → Walks (walk d store bytes) fed (afterwards ++ drop n store)
-walks_front d store front bytes n enough long is fed afterwards w =
-    let e = walk_front d store front bytes n enough long is in
+walks_front d store front bytes n c enough fed afterwards w =
+    let e = walk_front d store front bytes n c enough in
     record {
       told = w.told ∙ sym (ap (λ (x : Walked). x.fed) e);
       left = ap (λ (l : List ℕ). l ++ drop n store) w.left ∙ sym (ap (λ (x : Walked). x.store) e);

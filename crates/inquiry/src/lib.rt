@@ -17,7 +17,8 @@ pub use identity::{Identity, Version};
 use ids::DeviceId;
 use refusal::{OfByte, Refusal};
 
-// The device of a framed message that is len long, with the shape behind its device. Refuses 1, then any other message with otherwise, then 5.
+// The device of a framed message that is len long and has the shape behind its device. Refuses 1, then any other message by otherwise, then 5 for the
+// device.
 fn device_in(
     bytes: &[u8],
     len: usize,

@@ -111,9 +111,3 @@ module _ (l : List ℕ) (free : MiddleFree l) (at : ℕ) (store : List ℕ) (b n
     where
       last : 0x80 ≤ b → 0xF7 ≤ b → b ≡ 0xF7
       last p v = omega arith
-
--- a byte below F8 that is neither a data byte beyond the limit nor breaks the frame off is its end
-pub end_is : (b at : ℕ) → b < 0xF8 → (b < 0x80 → limit ≤ at) → at < limit → (0x80 ≤ b → b < 0xF7 → ⊥) → b ≡ 0xF7
-end_is b at high full fits none =
-    split (ltb b 0x80) (λ t. absurd (omega (arith, full (ltb-true b 0x80 t), fits)))
-    (λ t. split (ltb b 0xF7) (λ u. absurd (none (ltb-false b 0x80 t) (ltb-true b 0xF7 u))) (λ u. omega (arith, ltb-false b 0xF7 u)))

@@ -7,7 +7,8 @@ use mathlib.Core.List.{List, [], ◌++◌}
 use Prim.Native.Nat.{ℕ, ◌+◌, ◌*◌, ◌/◌, ◌%◌, ◌≤◌, ◌<◌}
 use native.Mathlib.Omega.{arith}
 use lib.Dec.{leb, eqb}
-use lib.ListN.{length, take, drop, get_or, take-append-drop}
+use lib.ListN.{length, drop, get_or}
+use Rattle.std.specs.Array.{IsFirstChunk}
 use Rattle.std.proofs.lemmas.List.{length-take-le}
 use borrow.Author.Tests.{eq-eqb, ne_eqb, le-leb, eqb-true, eqb-false, leb-true}
 use Rattle.laws.specs.Choice.{pick}
@@ -16,7 +17,7 @@ use Rattle.refusal.specs.Outcome.{Outcome, gives, refused}
 use Rattle.decoder.specs.State.{limit, sound, waits_soundly}
 use Rattle.decoder.specs.Call.{Walked, walk}
 use Rattle.decoder.proofs.Calling.{short_refused, unsound_refused, ready_walks}
-use Rattle.decoder.proofs.Longer.{longer_by, walk_front}
+use Rattle.decoder.proofs.Longer.{longer_by, front_back, walk_front}
 use Rattle.stream.specs.declared.FedAnswer.{FedAnswer}
 use Rattle.stream.specs.State.{is_state, state_of, state_length}
 use Rattle.stream.specs.Feed.{feed_call, refused_feed, StreamFed}
@@ -40,14 +41,10 @@ short_store state store bytes h = split (is_state state) (λ t. rw t (short_refu
 pub long_state : (state store bytes : List ℕ) → (length state ≡ 14 → ⊥) → feed_call state store bytes ≡ refused 20 []
 long_state state store bytes h = rw (ne_eqb (length state) 14 h)
 
--- the front of a store and the rest behind it are the store
-pub front_back : (store front : List ℕ) (n : ℕ) → front ≡ take n store → front ++ drop n store ≡ store
-front_back store front n is = ap (λ (l : List ℕ). l ++ drop n store) is ∙ take-append-drop n store
-
 -- a call on the front of a store is the call on the store, with the rest as it was
-pub fed_front : (state store front bytes : List ℕ) (n : ℕ) → limit ≤ n → n ≤ length store → front ≡ take n store → (r : FedAnswer) (later left : List ℕ)
+pub fed_front : (state store front bytes : List ℕ) (n : ℕ) → IsFirstChunk store front n → limit ≤ n → (r : FedAnswer) (later left : List ℕ)
     → StreamFed (feed_call state front bytes) r state later front left → StreamFed (feed_call state store bytes) r state later store (left ++ drop n store)
-fed_front state store front bytes n enough long is r later left f =
+fed_front state store front bytes n c enough r later left f =
     split (is_state state)
     (λ t. split (sound (state_of state)) (λ u. walks t u)
     (λ u. stays (rw t (unsound_refused (state_of state) front bytes u)) (rw t (unsound_refused (state_of state) store bytes u))))
@@ -57,15 +54,15 @@ fed_front state store front bytes n enough long is r later left f =
         → StreamFed (feed_call state store bytes) r state later store (left ++ drop n store)
     stays p q =
         let g : StreamFed (refused 20 []) r state later front left = subst (λ (o : Outcome Walked). StreamFed o r state later front left) p f in
-        rw q (record { answers = g.answers; keeps = g.keeps; leaves = ap (λ (l : List ℕ). l ++ drop n store) g.leaves ∙ front_back store front n is })
+        rw q (record { answers = g.answers; keeps = g.keeps; leaves = ap (λ (l : List ℕ). l ++ drop n store) g.leaves ∙ front_back store front n c })
 
     walks : is_state state ≡ true → sound (state_of state) ≡ true → StreamFed (feed_call state store bytes) r state later store (left ++ drop n store)
     walks t u =
         let d = state_of state in
-        let room : limit ≤ length front = omega (arith, enough, length-take-le n store long, ap length is) in
+        let room : limit ≤ length front = omega (arith, enough, length-take-le n store c.enough, ap length c.same) in
         let p : feed_call state front bytes ≡ gives (walk d front bytes) = rw t (ready_walks d front bytes room u) in
         let q : feed_call state store bytes ≡ gives (longer_by (drop n store) (walk d front bytes)) =
-        rw t (ready_walks d store bytes (omega (arith, enough, long)) u) ∙ ap (λ (w : Walked). gives w) (walk_front d store front bytes n enough long is) in
+        rw t (ready_walks d store bytes (omega (arith, enough, c.enough)) u) ∙ ap (λ (w : Walked). gives w) (walk_front d store front bytes n c enough) in
         let g : StreamFed (gives (walk d front bytes)) r state later front left = subst (λ (o : Outcome Walked). StreamFed o r state later front left) p f in
         rw q (record { answers = g.answers; keeps = g.keeps; leaves = ap (λ (l : List ℕ). l ++ drop n store) g.leaves })
 

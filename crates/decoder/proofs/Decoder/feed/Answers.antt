@@ -25,4 +25,4 @@ returns c = let a = c.args in
     let room : limit ≤ length a.store.now = omega (arith, limit_is, front.enough) in
     feeds _ _ w.result a.store.now _
     (ready_walks a.self a.store.now a.bytes.now room (sym c.is_sound.ensures ∙ c.if-not-is_sound.false))
-    (walks_front a.self a.store.now c.in-Some.front.now a.bytes.now 2354 (omega (arith, limit_is)) front.enough front.same w.result w.new.store w.ensures)
+    (walks_front a.self a.store.now c.in-Some.front.now a.bytes.now _ front (omega (arith, limit_is)) w.result w.new.store w.ensures)

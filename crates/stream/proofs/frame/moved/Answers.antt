@@ -10,5 +10,5 @@ pub returns : goal.returns
 returns c =
     let a = c.args in
     let p = c.requires in
-    run_moved_there 2354 a.at a.used (a.used + c.min-most.result - a.used) _ a.store.now a.bytes.now _ (sym c.told-store) (omega (arith, limit_is)) p.0 p.1 (omega (arith, limit_is))
+    run_moved_there _ a.at a.used (a.used + c.min-most.result - a.used) _ a.store.now a.bytes.now _ (sym c.told-store) (omega (arith, limit_is)) p.0 p.1 (omega (arith, limit_is))
     c.moved_run.ensures.1 c.moved_run.ensures.0.moved
