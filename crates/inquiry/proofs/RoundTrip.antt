@@ -14,7 +14,7 @@ use Rattle.refusal.specs.Outcome.{gives, unless}
 use Rattle.refusal.proofs.Given.{passed, passed_on}
 use Rattle.ids.specs.declared.device.DeviceId.{DeviceId}
 use Rattle.ids.specs.Device.{device_of, device_in_range}
-use Rattle.ids.proofs.device.Range.{device_in_range_lem, device_reads_back}
+use Rattle.ids.proofs.device.Range.{read_device_in_range, device_reads_back}
 use Rattle.framing.specs.Framing.{framed, same_bytes}
 use Rattle.framing.proofs.Bytes.{same_is, spelled}
 use Rattle.inquiry.specs.declared.identity.Version.{Version}
@@ -33,7 +33,7 @@ request_same_bytes bytes d e =
     let e1 = passed_on (framed bytes) 1 [] (unless (is_request bytes) 15 [] (device_of (get_or bytes 2 0))) d e in
     let ends = passed (framed bytes) 1 [] (unless (is_request bytes) 15 [] (device_of (get_or bytes 2 0))) d e in
     let shape = passed (is_request bytes) 15 [] (device_of (get_or bytes 2 0)) d e1 in
-    let device = device_in_range_lem (get_or bytes 2 0) d (passed_on (is_request bytes) 15 [] (device_of (get_or bytes 2 0)) d e1) in
+    let device = read_device_in_range (get_or bytes 2 0) d (passed_on (is_request bytes) 15 [] (device_of (get_or bytes 2 0)) d e1) in
     let six : Bool = eqb (length bytes) 6 in
     let kind : Bool = eqb (get_or bytes 1 0) 0x7E in
     let rest : Bool = same_bytes (take 2 (drop 3 bytes)) (0x06 ∷ 0x01 ∷ []) in

@@ -1,3 +1,4 @@
 pub mod Identity
 pub mod Reply
 pub mod Request
+pub mod Shape

@@ -1,18 +1,17 @@
 -- The identity reply of document 01: "reply 17 bytes: F0 7E device 06 02 00 20 32 20 00 01 00, firmware (minor in the high four bits), one free
 -- byte, two voice bytes, F7."
-use Rattle.std.specs.Prelude.{Bool, ◌&&◌, List, [], ◌∷◌, ◌++◌, ℕ, eqb, length, get_or, take, drop}
+use Rattle.std.specs.Prelude.{Bool, List, [], ◌∷◌, ◌++◌, ℕ, get_or}
 use Rattle.refusal.specs.Outcome.{Outcome, gives, unless, and_then, with_room}
 use Rattle.ids.specs.declared.device.DeviceId.{DeviceId}
 use Rattle.ids.specs.Device.{device_of, device_byte, device_in_range}
-use Rattle.framing.specs.Framing.{when_framed, same_bytes, maker}
+use Rattle.framing.specs.Framing.{when_framed, maker}
+use Rattle.inquiry.specs.Shape.{has_shape}
 use Rattle.inquiry.specs.declared.identity.Identity.{Identity}
 use Rattle.inquiry.specs.Identity.{firmware_of, packed_of}
 
--- the shape of a reply: 7E, any device, 06 02, maker, family and member, then any five bytes
+-- the shape of a reply: seventeen bytes, 7E, any device, 06 02, maker, family and member, then any five bytes and the end
 abbrev pub is_reply : List ℕ → Bool
-is_reply bytes =
-    eqb (length bytes) 17 && eqb (get_or bytes 1 0) 0x7E
-    && same_bytes (take 9 (drop 3 bytes)) (0x06 ∷ 0x02 ∷ maker ++ (0x00 ∷ 0x01 ∷ 0x00 ∷ []))
+is_reply = has_shape 17 (0x06 ∷ 0x02 ∷ maker ++ (0x00 ∷ 0x01 ∷ 0x00 ∷ []))
 
 -- what a reply tells; "Voice bytes above 7F pass"
 abbrev pub identity_at : DeviceId → List ℕ → Identity

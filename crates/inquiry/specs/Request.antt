@@ -1,13 +1,14 @@
 -- The identity request of document 01: "Request F0 7E device 06 01 F7".
-use Rattle.std.specs.Prelude.{Bool, ◌&&◌, List, [], ◌∷◌, ℕ, eqb, length, get_or, take, drop}
+use Rattle.std.specs.Prelude.{Bool, List, [], ◌∷◌, ℕ, get_or}
 use Rattle.refusal.specs.Outcome.{Outcome, unless, with_room}
 use Rattle.ids.specs.declared.device.DeviceId.{DeviceId}
 use Rattle.ids.specs.Device.{device_of, device_byte, device_in_range}
-use Rattle.framing.specs.Framing.{when_framed, same_bytes}
+use Rattle.framing.specs.Framing.{when_framed}
+use Rattle.inquiry.specs.Shape.{has_shape}
 
--- the shape of a request between its ends: 7E, any device, 06 01
+-- the shape of a request: six bytes, 7E, any device, 06 01
 abbrev pub is_request : List ℕ → Bool
-is_request bytes = eqb (length bytes) 6 && eqb (get_or bytes 1 0) 0x7E && same_bytes (take 2 (drop 3 bytes)) (0x06 ∷ 0x01 ∷ [])
+is_request = has_shape 6 (0x06 ∷ 0x01 ∷ [])
 
 -- "Order: 1, shape (15 or 16), 5"
 abbrev pub read_request : List ℕ → Outcome DeviceId

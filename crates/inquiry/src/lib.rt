@@ -2,11 +2,12 @@
 // answers, and with which firmware.
 #![tactic(auto)]
 
-ghost use Rattle.std.specs.Prelude.{◌≡◌, ◌+◌, ◌≤◌, ◌&&◌, eqb, get_or, length, take, drop};
+ghost use Rattle.std.specs.Prelude.{◌≡◌, ◌+◌, ◌≤◌, get_or, length};
 ghost use Rattle.refusal.specs.Outcome.{answered, unless};
 ghost use Rattle.refusal.specs.Refusal.{number_of, values_of};
 ghost use Rattle.ids.specs.Device.{device_of};
-ghost use Rattle.framing.specs.Framing.{when_framed, same_bytes};
+ghost use Rattle.framing.specs.Framing.{when_framed};
+ghost use Rattle.inquiry.specs.Shape.{has_shape};
 
 pub mod identity;
 pub mod reply;
@@ -26,7 +27,7 @@ fn device_in(
     otherwise: Refusal,
 ) -> Result<DeviceId, Refusal>
     requires { 3 + length shape.now ≤ len }
-    ensures { answered result ≡ when_framed bytes.now (unless (eqb (length bytes.now) len && eqb (get_or bytes.now 1 0) 0x7E && same_bytes (take (length shape.now) (drop 3 bytes.now)) shape.now) (number_of otherwise) (values_of otherwise) (device_of (get_or bytes.now 2 0))) }
+    ensures { answered result ≡ when_framed bytes.now (unless (has_shape len shape.now bytes.now) (number_of otherwise) (values_of otherwise) (device_of (get_or bytes.now 2 0))) }
 {
     if !framing::is_framed(bytes) {
         return Err(Refusal::Unframed);
