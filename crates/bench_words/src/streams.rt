@@ -11,12 +11,12 @@ use wire::{Channel, ChannelMessage, SystemCommon};
 
 // A report as the bench writes it. A frame is the front of the store.
 #[derive(Clone, Copy)]
-struct Told<'a> {
+struct BenchReport<'a> {
     store: &'a [u8],
     report: Report,
 }
 
-impl fmt::Display for Told<'_> {
+impl fmt::Display for BenchReport<'_> {
     fn fmt<W: fmt::Write>(&self, f: &mut fmt::Formatter<W>) -> fmt::Result {
         match self.report {
             Report::Channel { channel, message } => tell_channel(f, channel, message),
@@ -120,7 +120,7 @@ impl Stream {
 
     // A report, behind the place of the byte that gave it.
     fn tell(&mut self, report: Report) -> Result<(), AllocError> {
-        let told = Told {
+        let told = BenchReport {
             store: &self.store,
             report,
         };

@@ -86,8 +86,8 @@ of_every test h k = same_at_every test (λ j. true) (each_true test commands h) 
 abbrev same_row : Row → Row → Bool
 same_row a b = eqb a.code b.code && (eqb a.prefix_len b.prefix_len && eqb a.raw_len b.raw_len)
 
-same_row_lem : (a b : Row) → same_row a b ≡ true → a ≡ b
-same_row_lem a b h =
+same_row_equal : (a b : Row) → same_row a b ≡ true → a ≡ b
+same_row_equal a b h =
     let one = both (eqb a.code b.code) (eqb a.prefix_len b.prefix_len && eqb a.raw_len b.raw_len) h in
     let two = both (eqb a.prefix_len b.prefix_len) (eqb a.raw_len b.raw_len) one.1 in
     let code = eqb-true a.code b.code one.0 in
@@ -99,7 +99,7 @@ same_row_lem a b h =
 pub row_at_place : (k : Command) (n : ℕ) (d : Row) → n ≡ place_of k → get_or table n d ≡ row_of k
 row_at_place k n d e =
     ap (λ (m : ℕ). get_or table m d) e
-    ∙ same_row_lem (get_or table (place_of k) d) (row_of k) (of_every (λ j. same_row (get_or table (place_of j) d) (row_of j)) refl k)
+    ∙ same_row_equal (get_or table (place_of k) d) (row_of k) (of_every (λ j. same_row (get_or table (place_of j) d) (row_of j)) refl k)
 
 -- no other byte is a code: 6 with the byte
 pub no_other_code : (b : ℕ) → ((k : Command) → code_of k ≡ b → ⊥) → command_of b ≡ refused 6 (b ∷ [])
@@ -135,15 +135,15 @@ versioned (fixed n) = false
 versioned any = false
 
 -- a run whose raw length is not the version's has its length in the table
-table_length_lem : (r : Run) (v : ℕ) → versioned r ≡ false → table_length r ≡ run_length r v
-table_length_lem none v h = refl
-table_length_lem program_data v h = absurd (true_is_not_false h)
-table_length_lem (fixed n) v h = refl
-table_length_lem any v h = refl
+length_without_version : (r : Run) (v : ℕ) → versioned r ≡ false → table_length r ≡ run_length r v
+length_without_version none v h = refl
+length_without_version program_data v h = absurd (true_is_not_false h)
+length_without_version (fixed n) v h = refl
+length_without_version any v h = refl
 
 -- the version decides for programs and the edit buffer, the table for every other command
 pub table_decides : (k : Command) (v : ℕ) → (code_of k ≡ 0x02 → ⊥) → (code_of k ≡ 0x04 → ⊥) → table_length (payload_of k).run ≡ raw_length_for k v
 table_decides k v p e =
     let two : Command → Bool = λ j. eqb (code_of j) 0x02 || eqb (code_of j) 0x04 in
     let told = same_at_every (λ j. versioned (payload_of j).run) two refl k in
-    table_length_lem (payload_of k).run v (told ∙ rw (ne_eqb (code_of k) 0x02 p, ne_eqb (code_of k) 0x04 e))
+    length_without_version (payload_of k).run v (told ∙ rw (ne_eqb (code_of k) 0x02 p, ne_eqb (code_of k) 0x04 e))

@@ -42,12 +42,12 @@ pub by_value_singly : (d : Decoder) (store bytes : List ℕ) → sound d ≡ tru
 by_value_singly = thin_singly by_value.Contract by_value.used by_value.tells thin
 
 -- from every state that a reset leaves
-pub by_value_lem : (d : Decoder) → Promises by_value (reset d)
-by_value_lem = thin_promises by_value.Contract by_value.used by_value.tells thin
+pub promises_by_value : (d : Decoder) → Promises by_value (reset d)
+promises_by_value = thin_promises by_value.Contract by_value.used by_value.tells thin
 
 -- CONDITION 3 of the code's own calls, from a fresh decoder
 pub condition_3_by_value : Condition3 by_value fresh
-condition_3_by_value = (by_value_lem fresh).condition_3
+condition_3_by_value = (promises_by_value fresh).condition_3
 
 -- some answer meets the contract, and so the calls can be made
 answers : Answers by_value
@@ -82,4 +82,4 @@ log_is_made cs d store bytes =
 
 pub log_means : (d : Decoder) (store bytes : List ℕ) → limit ≤ length store → (cs : List (Call by_value))
     → Exactly cs (meaning [] bytes) (log_of cs (reset d) store bytes)
-log_means d store bytes room cs = (by_value_lem d).calls_mean store room bytes cs _ (log_is_made cs (reset d) store bytes)
+log_means d store bytes room cs = (promises_by_value d).calls_mean store room bytes cs _ (log_is_made cs (reset d) store bytes)

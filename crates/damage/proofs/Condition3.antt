@@ -44,9 +44,9 @@ alone : (t : Bool) → interruption t ≡ interruption t ++ []
 alone true = refl
 alone false = refl
 
-in_front_lem : (t : Bool) (x : List Reported) → interruption t ++ x ≡ pick t (report18 ∷ x) x
-in_front_lem true x = refl
-in_front_lem false x = refl
+interruption_leads : (t : Bool) (x : List Reported) → interruption t ++ x ≡ pick t (report18 ∷ x) x
+interruption_leads true x = refl
+interruption_leads false x = refl
 
 -- a status byte 80 to F6 reports 18 where a frame is open, and then what it reports in a stream that begins with it
 pub led_by : (c : Class) (v : ℕ) (xs : List ℕ) (b : ℕ) → Range c b → 0x80 ≤ b → b < 0xF7
@@ -71,7 +71,7 @@ begun_read t ts us low high r w past =
     let lead = led_by c v xs b (range_of b) low high in
     let same = ahead c past b (range_of b) in
     ap₂ (λ (x : List Reported) (rest : List (List Reported)). x ∷ rest)
-    (lead.0 ∙ ap (λ (x : List Reported). interruption (is_open v xs) ++ x) r.0 ∙ in_front_lem (is_open v xs) t.intact)
+    (lead.0 ∙ ap (λ (x : List Reported). interruption (is_open v xs) ++ x) r.0 ∙ interruption_leads (is_open v xs) t.intact)
     (woven w (b ∷ past) (rw (same.0 ∙ lead.1, same.1 ∙ lead.2) r.1))
 
 -- what is sent from the first whole message on reads intact behind any bytes, led by one 18 if a frame is open there

@@ -58,12 +58,12 @@ pub in_place_singly : (d : Decoder) (store bytes : List ℕ) → sound d ≡ tru
 in_place_singly = thin_singly in_place.Contract in_place.used in_place.tells thin
 
 -- from every state that a reset leaves
-pub in_place_lem : (d : Decoder) → Promises in_place (reset d)
-in_place_lem = thin_promises in_place.Contract in_place.used in_place.tells thin
+pub promises_in_place : (d : Decoder) → Promises in_place (reset d)
+promises_in_place = thin_promises in_place.Contract in_place.used in_place.tells thin
 
 -- CONDITION 3 for lists of calls in place, from a fresh decoder
 pub condition_3_in_place : Condition3 in_place fresh
-condition_3_in_place = (in_place_lem fresh).condition_3
+condition_3_in_place = (promises_in_place fresh).condition_3
 
 -- some answer meets the contract, and so the calls can be made
 answers : Answers in_place

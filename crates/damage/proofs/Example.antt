@@ -20,7 +20,7 @@ use Rattle.damage.specs.Sent.{Message, Voice, Frame, all_tagged, Tag, realtime_t
 use Rattle.damage.specs.Caller.{Call, give, lend_short, CallLog, Made, paced, Exactly}
 use Rattle.damage.specs.Untouched.{own_places, sent_messages, untouched_reports, within}
 use Rattle.damage.specs.Calls.{by_value}
-use Rattle.damage.proofs.ByValue.{by_value_lem}
+use Rattle.damage.proofs.ByValue.{promises_by_value}
 
 abbrev pub messages : List Message
 messages = Voice (record { 0 = 0 }) (w.NoteOn 60 64) ∷ Frame (1 ∷ 2 ∷ []) ∷ Voice (record { 0 = 1 }) (w.ProgramChange 5) ∷ []
@@ -59,7 +59,7 @@ reported =
 pub worked_example : (store : List ℕ) → limit ≤ length store → (cs : List (Call by_value)) (log : CallLog) → Made by_value cs fresh store arrived log
     → Exactly cs reported log
 unfolding meaning heard message class_of data_length limit
-worked_example store room cs log made = (by_value_lem fresh).condition_3_fixed messages refl sent is_sent 1 2 (0xF0 ∷ 0x07 ∷ []) store room cs log made
+worked_example store room cs log made = (promises_by_value fresh).condition_3_fixed messages refl sent is_sent 1 2 (0xF0 ∷ 0x07 ∷ []) store room cs log made
 
 -- three bytes, a call that is lent no store at all, and then all that is left, again and again: each call stops at the first byte
 -- that reports

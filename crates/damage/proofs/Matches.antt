@@ -37,12 +37,12 @@ pending status xs =
     (pick (leb (data_length status) 1) 0 (length xs % 2))
     (pick (ltb (length xs) (data_length status)) (length xs) 0)
 
-pub record InFrame (xs : List ℕ) (d : Decoder) (store : List ℕ) : Type 0 where
+pub record MatchesFrame (xs : List ℕ) (d : Decoder) (store : List ℕ) : Type 0 where
   pub inside : d.in_sysex ≡ true
   pub size : d.len ≡ suc (length xs)
   pub front : take d.len store ≡ 0xF0 ∷ xs
 
-pub record Outside (status : ℕ) (xs : List ℕ) (d : Decoder) : Type 0 where
+pub record MatchesClosed (status : ℕ) (xs : List ℕ) (d : Decoder) : Type 0 where
   pub outside : d.in_sysex ≡ false
   pub force : d.status ≡ held status xs
   pub have : d.have ≡ pending status xs
@@ -50,8 +50,8 @@ pub record Outside (status : ℕ) (xs : List ℕ) (d : Decoder) : Type 0 where
 
 pub record Matches (status : ℕ) (xs : List ℕ) (d : Decoder) (store : List ℕ) : Type 0 where
   pub room : limit ≤ length store
-  pub framed : is_open status xs ≡ true → InFrame xs d store
-  pub plain : is_open status xs ≡ false → Outside status xs d
+  pub framed : is_open status xs ≡ true → MatchesFrame xs d store
+  pub plain : is_open status xs ≡ false → MatchesClosed status xs d
 
 -- the message that is reported is the one that history names
 common_told : (store : List ℕ) (x : Option SystemCommon) → told_all store (own_report (common_report x)) ≡ heard_common x
@@ -82,7 +82,7 @@ last_is xs b = rw (length-append xs (b ∷ [])) (ap (λ (n : ℕ). get_or (xs ++
 
 -- what a data byte outside a frame leaves and reports, under each kind of status
 abbrev pub Next : ℕ → List ℕ → ℕ → List ℕ → Stepped → Type 0
-Next v xs b store x = (told_all store (report_list x.interrupted x.report) ≡ heard_data v xs b) × Outside v (xs ++ (b ∷ [])) x.state
+Next v xs b store x = (told_all store (report_list x.interrupted x.report) ≡ heard_data v xs b) × MatchesClosed v (xs ++ (b ∷ [])) x.state
 
 -- the data byte that makes a message whole
 module _ (v : ℕ) (xs : List ℕ) (d : Decoder) (b : ℕ) (store : List ℕ) where
@@ -118,7 +118,7 @@ module _ (v : ℕ) (xs : List ℕ) (d : Decoder) (b : ℕ) (store : List ℕ) wh
   more = length-append xs (b ∷ [])
 
   -- a channel status: running status, so that it stays
-  channel_next : is_channel_status v ≡ true → Outside v xs d → Next v xs b store (collect (Some v) d b)
+  channel_next : is_channel_status v ≡ true → MatchesClosed v xs d → Next v xs b store (collect (Some v) d b)
   channel_next c o = split (leb (data_length v) 1) one two
     where
       stays : kept v ≡ held v (xs ++ (b ∷ []))
@@ -148,7 +148,7 @@ module _ (v : ℕ) (xs : List ℕ) (d : Decoder) (b : ℕ) (store : List ℕ) wh
               goes _ _ (first_of_two (now ∙ is) l) (waits (rw (c, l, e)) (rw c) (rw (c, l, more) (omega arith)))
 
   -- a common status: it serves once
-  common_next : is_channel_status v ≡ false → length xs < data_length v → Outside v xs d → Next v xs b store (collect (Some v) d b)
+  common_next : is_channel_status v ≡ false → length xs < data_length v → MatchesClosed v xs d → Next v xs b store (collect (Some v) d b)
   common_next c h o = split (leb (data_length v) 1) one two
     where
       now : d.have ≡ length xs
@@ -186,7 +186,7 @@ module _ (v : ℕ) (xs : List ℕ) (d : Decoder) (b : ℕ) (store : List ℕ) wh
               (whole d.data0 b d.data0 b (rw (c, l, eq-eqb (length xs + 1) (data_length v) (omega (arith, exactly)), known)) all.0 all.1)
 
   -- no status in force: stray data
-  stray_next : is_channel_status v ≡ false → data_length v ≤ length xs → Outside v xs d → Next v xs b store (collect None d b)
+  stray_next : is_channel_status v ≡ false → data_length v ≤ length xs → MatchesClosed v xs d → Next v xs b store (collect None d b)
   stray_next c h o = (
     sym (rw (c, ne_eqb (length xs + 1) (data_length v) (λ q. omega arith))),
     record {
@@ -203,7 +203,7 @@ module _ (v : ℕ) (xs : List ℕ) (d : Decoder) (b : ℕ) (store : List ℕ) wh
           omega arith
 
   -- any status but F0
-  pub data_next : Outside v xs d → Next v xs b store (collect d.status d b)
+  pub data_next : MatchesClosed v xs d → Next v xs b store (collect d.status d b)
   data_next o = split (is_channel_status v) (λ c. under (Some v) (rw c) (channel_next c o)) other
     where
       under : (x : Option ℕ) → held v xs ≡ x → Next v xs b store (collect x d b) → Next v xs b store (collect d.status d b)

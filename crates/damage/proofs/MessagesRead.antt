@@ -17,7 +17,7 @@ use Rattle.wire.specs.declared.system_common.SystemCommon.TheVariants as y
 use Rattle.wire.specs.ChannelMessage.{status_nibble, data_bytes}
 use Rattle.wire.specs.SystemCommon.{common_bytes, common_message, common_in_range}
 use Rattle.wire.proofs.channel_message.Bytes.{nibble_range}
-use Rattle.wire.proofs.ReadBack.{channel_reads_back, channel_data_length_lem, common_reads_back}
+use Rattle.wire.proofs.ReadBack.{channel_reads_back, data_length_of_channel, common_reads_back}
 use Rattle.decoder.specs.declared.Class.{Class}
 use Rattle.decoder.specs.declared.Class.TheVariants as k
 use Rattle.decoder.specs.State.{limit}
@@ -72,7 +72,7 @@ voice c m ok =
     let range = nibble_range m in
     record {
       held = (omega arith, omega arith, λ q. omega arith);
-      takes = channel_data_length_lem c.0 m in-channel;
+      takes = data_length_of_channel c.0 m in-channel;
       means = rw (channel_reads_back c.0 m in-channel fit.1) (ap (λ (n : ℕ). gives (channel (record { 0 = n }) m) ∷ []) (low_four c.0 m in-channel));
     }
 
@@ -131,7 +131,7 @@ module _ (v : ℕ) (xs : List ℕ) (closed : is_open v xs ≡ false) (rest : Lis
       (frame_data (done ++ (x ∷ [])) todo e (is ∙ ap (λ (l : List ℕ). frame (0xF0 ∷ l)) (sym (append_assoc done (x ∷ []) (todo ++ (0xF7 ∷ []))))) bits.1
       (rw (length-append done (x ∷ [])) (omega arith))))
 
-  frame_reads : (data_bytes_lem : List ℕ) → sendable (Frame data_bytes_lem) ≡ true → Reads v xs (tagged (Frame data_bytes_lem) ++ rest)
+  frame_reads : (bytes : List ℕ) → sendable (Frame bytes) ≡ true → Reads v xs (tagged (Frame bytes) ++ rest)
   frame_reads bytes ok =
       let fit = both _ _ ok in
       let short : length (bytes_of (Frame bytes)) ≤ limit = leb-true _ _ fit.1 in

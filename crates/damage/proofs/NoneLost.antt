@@ -18,7 +18,8 @@ use Rattle.damage.specs.Sent.{Message, all_sendable, event_of, Tag, all_tagged, 
 use Rattle.damage.specs.Damage.{before_run, after_run, arrives, from_first, until_first, break_bytes, open_there, led, around_break}
 use Rattle.damage.specs.Caller.{Caller, total_used}
 use Rattle.damage.specs.Condition3.{Condition3}
-use Rattle.damage.specs.Untouched.{own_places, SentMessage, sent_messages, all_ahead, none_ahead, untouched, arrives_at, first_place, last_place, Placed, last_byte_report, untouched_reports, within, in_order, Among, all_found, found, passed, NoneLost}
+use Rattle.damage.specs.Untouched.{own_places, SentMessage, sent_messages, all_ahead, none_ahead, untouched, arrives_at, first_place, last_place, Placed}
+use Rattle.damage.specs.Untouched.{last_byte_report, untouched_reports, within, in_order, Among, all_found, found, passed, NoneLost}
 use Rattle.damage.proofs.Places.{drop_head, no_tag, At, AllAt, own_stand, all_at}
 
 -- a report is one of these

@@ -17,7 +17,7 @@ use Rattle.decoder.specs.Reports.{Event}
 use Rattle.damage.specs.Sent.{Message, bytes_of, sendable, all_sendable, event_of, Tag, tags, tagged, all_tagged, Sent, nothing, own, between}
 use Rattle.damage.specs.Damage.{after_run, from_first}
 use Rattle.damage.specs.Untouched.{own_places, SentMessage, sent_messages, all_ahead, none_ahead, first_place, last_place, first_after}
-use Rattle.damage.proofs.Woven.{shaped}
+use Rattle.damage.proofs.Woven.{own_status}
 
 -- what stands at a place
 pub drop_head : {A : Type 0} (d : A) (l : List A) (k : ℕ) (x : A) (xs : List A) → drop k l ≡ x ∷ xs → (get_or l k d ≡ x) × (k < length l) × (drop (suc k) l ≡ xs)
@@ -127,10 +127,10 @@ module _ (sent : List Tag) where
   pub sendable_at : (m : Message) → sendable m ≡ true → (low : ℕ) (ps : List ℕ) (ts : List Tag) → Stands sent low ps (tagged m ++ ts)
       → At sent low (take (length (bytes_of m)) ps) (event_of m) × Stands sent (suc (last_place (take (length (bytes_of m)) ps))) (drop (length (bytes_of m)) ps) ts
   sendable_at m ok low ps ts =
-      let f = shaped m ok in
+      let f = own_status m ok in
       let P : List ℕ → Type 0 = λ (l : List ℕ). Stands sent low ps (tags true (event_of m) l ++ ts)
       → At sent low (take (length l) ps) (event_of m) × Stands sent (suc (last_place (take (length l) ps))) (drop (length l) ps) ts in
-      subst P (sym f.is) (message_at (event_of m) f.status f.data_bytes_lem low ps ts)
+      subst P (sym f.is) (message_at (event_of m) f.status f.behind low ps ts)
 
   -- all messages, one behind the other
   abbrev pub AllAt : ℕ → List SentMessage → Type 0
@@ -184,10 +184,10 @@ module _ (sent : List Tag) where
   over_sendable : (m : Message) → sendable m ≡ true → (low : ℕ) (ps : List ℕ) (ts : List Tag) → Stands sent low ps (tagged m ++ ts)
       → firsts (tagged m ++ ts) ps ≡ first_place (take (length (bytes_of m)) ps) ∷ firsts ts (drop (length (bytes_of m)) ps)
   over_sendable m ok low ps ts =
-      let f = shaped m ok in
+      let f = own_status m ok in
       let P : List ℕ → Type 0 = λ (l : List ℕ). Stands sent low ps (tags true (event_of m) l ++ ts)
       → firsts (tags true (event_of m) l ++ ts) ps ≡ first_place (take (length l) ps) ∷ firsts ts (drop (length l) ps) in
-      subst P (sym f.is) (over_message (event_of m) f.status f.data_bytes_lem low ps ts)
+      subst P (sym f.is) (over_message (event_of m) f.status f.behind low ps ts)
 
   first_places : (ms : List Message) → all_sendable ms ≡ true → (low : ℕ) (ps : List ℕ) → Stands sent low ps (all_tagged ms)
       → firsts (all_tagged ms) ps ≡ map (λ (x : SentMessage). first_place x.places) (sent_messages ms ps)

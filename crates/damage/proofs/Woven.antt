@@ -76,23 +76,23 @@ begins (between b {ts} {us} h w) = go (begins w)
     go (inr r) = inr (record { head = r.head; own_rest = r.own_rest; rest = r.rest; own_is = r.own_is; is = r.is; sent = r.sent })
 
 -- a message has a first byte, its own status byte: 80 to F6
-pub record Shaped (m : Message) : Type 0 where
+pub record OwnStatus (m : Message) : Type 0 where
   pub status : ℕ
-  pub data_bytes_lem : List ℕ
-  pub is : bytes_of m ≡ status ∷ data_bytes_lem
+  pub behind : List ℕ
+  pub is : bytes_of m ≡ status ∷ behind
   pub low : 0x80 ≤ status
   pub high : status < 0xF7
 
-pub shaped : (m : Message) → sendable m ≡ true → Shaped m
-shaped (Voice c m) ok =
+pub own_status : (m : Message) → sendable m ≡ true → OwnStatus m
+own_status (Voice c m) ok =
     let range = nibble_range m in
     let in-channel : c.0 < 16 = ltb-true _ _ (both _ _ (both _ _ ok).0).0 in
-    record { status = status_nibble m + c.0; data_bytes_lem = data_bytes m; is = refl; low = omega arith; high = omega arith }
-shaped (Common (y.TimeCodeQuarterFrame a)) ok = record { status = 0xF1; data_bytes_lem = a ∷ []; is = refl; low = omega arith; high = omega arith }
-shaped (Common (y.SongPosition a)) ok = record { status = 0xF2; data_bytes_lem = a % 128 ∷ a / 128 ∷ []; is = refl; low = omega arith; high = omega arith }
-shaped (Common (y.SongSelect a)) ok = record { status = 0xF3; data_bytes_lem = a ∷ []; is = refl; low = omega arith; high = omega arith }
-shaped (Common y.TuneRequest) ok = record { status = 0xF6; data_bytes_lem = []; is = refl; low = omega arith; high = omega arith }
-shaped (Frame xs) ok = record { status = 0xF0; data_bytes_lem = xs ++ (0xF7 ∷ []); is = refl; low = omega arith; high = omega arith }
+    record { status = status_nibble m + c.0; behind = data_bytes m; is = refl; low = omega arith; high = omega arith }
+own_status (Common (y.TimeCodeQuarterFrame a)) ok = record { status = 0xF1; behind = a ∷ []; is = refl; low = omega arith; high = omega arith }
+own_status (Common (y.SongPosition a)) ok = record { status = 0xF2; behind = a % 128 ∷ a / 128 ∷ []; is = refl; low = omega arith; high = omega arith }
+own_status (Common (y.SongSelect a)) ok = record { status = 0xF3; behind = a ∷ []; is = refl; low = omega arith; high = omega arith }
+own_status (Common y.TuneRequest) ok = record { status = 0xF6; behind = []; is = refl; low = omega arith; high = omega arith }
+own_status (Frame xs) ok = record { status = 0xF0; behind = xs ++ (0xF7 ∷ []); is = refl; low = omega arith; high = omega arith }
 
 -- only the status byte of a message is its first
 from_status : (e : Event) (b : ℕ) (bs : List ℕ) (rest : List Tag) → from_first (tags true e (b ∷ bs) ++ rest) ≡ tags true e (b ∷ bs) ++ rest
@@ -120,22 +120,22 @@ pub whole_behind : (ms : List Message) → all_sendable ms ≡ true → (j : ℕ
 whole_behind [] ok zero = record { messages = []; is = refl; ok = refl }
 whole_behind [] ok (suc j) = record { messages = []; is = refl; ok = refl }
 whole_behind (m ∷ ms) ok zero =
-    let s = shaped m (both (sendable m) (all_sendable ms) ok).0 in
+    let s = own_status m (both (sendable m) (all_sendable ms) ok).0 in
     record {
       messages = m ∷ ms;
       is = subst (λ (l : List ℕ). from_first (tags true (event_of m) l ++ all_tagged ms) ≡ tags true (event_of m) l ++ all_tagged ms) (sym s.is)
-          (from_status (event_of m) s.status s.data_bytes_lem (all_tagged ms));
+          (from_status (event_of m) s.status s.behind (all_tagged ms));
       ok = ok;
     }
 whole_behind (m ∷ ms) ok (suc j) =
-    let s = shaped m (both (sendable m) (all_sendable ms) ok).0 in
-    let over = over_data (event_of m) s.data_bytes_lem (all_tagged ms) j in
+    let s = own_status m (both (sendable m) (all_sendable ms) ok).0 in
+    let over = over_data (event_of m) s.behind (all_tagged ms) j in
     let next = whole_behind ms (both (sendable m) (all_sendable ms) ok).1 over.0 in
     record {
       messages = next.messages;
       is =
           ap from_first
-          (ap (λ (l : List ℕ). drop (suc j) (tags true (event_of m) l ++ all_tagged ms)) s.is ∙ behind_status (event_of m) s.status s.data_bytes_lem (all_tagged ms) j)
+          (ap (λ (l : List ℕ). drop (suc j) (tags true (event_of m) l ++ all_tagged ms)) s.is ∙ behind_status (event_of m) s.status s.behind (all_tagged ms) j)
           ∙ over.1 ∙ next.is;
       ok = next.ok;
     }
@@ -152,10 +152,10 @@ head_status e b (x ∷ bs) rest = refl
 pub begins_with_status : (ms : List Message) → all_sendable ms ≡ true → (t : Tag) (ts : List Tag) → all_tagged ms ≡ t ∷ ts → (0x80 ≤ t.byte) × (t.byte < 0xF7)
 begins_with_status [] ok t ts e = let z : ◌≡◌ {A = ℕ} 0 1 = cc in (omega arith, omega arith)
 begins_with_status (m ∷ ms) ok t ts e =
-    let s = shaped m (both (sendable m) (all_sendable ms) ok).0 in
+    let s = own_status m (both (sendable m) (all_sendable ms) ok).0 in
     let low = s.low in
     let high = s.high in
     let same : t.byte ≡ s.status =
     sym (ap head_byte e) ∙ ap (λ (l : List ℕ). head_byte (tags true (event_of m) l ++ all_tagged ms)) s.is
-    ∙ head_status (event_of m) s.status s.data_bytes_lem (all_tagged ms) in
+    ∙ head_status (event_of m) s.status s.behind (all_tagged ms) in
     (omega arith, omega arith)

@@ -24,7 +24,8 @@ pub record Caller : Type 1 where
   pub Meanwhile : State → Store → State → Store → Type 0
 
 -- document 01's caller has one store, and "Nobody else writes state or store meanwhile"
-abbrev pub sole_caller : {State Answer : Type 0} → (State → List ℕ → List ℕ → Answer → State → List ℕ → Type 0) → (Answer → Outcome ℕ) → (Answer → List ℕ → List Reported) → Caller
+abbrev pub sole_caller : {State Answer : Type 0} → (State → List ℕ → List ℕ → Answer → State → List ℕ → Type 0)
+    → (Answer → Outcome ℕ) → (Answer → List ℕ → List Reported) → Caller
 sole_caller {State} {Answer} contract used tells =
     record {
       State = State;

@@ -28,10 +28,10 @@ use Rattle.frame_reader.specs.Payload.{accepted, numbered_by, prefix_length, ear
 use Rattle.frame_reader.specs.Reader.{payload, maker, read_command, read_header, read_record}
 
 -- fields that were given all fit, and are the ones that were read
-pub all_fit_lem : {A : Type 0} (l : List Field) (p : List ℕ) (i : ℕ) (a b : A) → checked l p i (gives a) ≡ gives b → (all_fit l p i ≡ true) × (a ≡ b)
-all_fit_lem [] p i a b e = (refl, cc)
-all_fit_lem (f ∷ fs) p i a b e =
-    let rest = all_fit_lem fs p (suc i) a b (passed_on (field_fits f (get_or p i 0)) (field_refusal f) (get_or p i 0 ∷ []) (checked fs p (suc i) (gives a)) b e) in
+pub given_fit : {A : Type 0} (l : List Field) (p : List ℕ) (i : ℕ) (a b : A) → checked l p i (gives a) ≡ gives b → (all_fit l p i ≡ true) × (a ≡ b)
+given_fit [] p i a b e = (refl, cc)
+given_fit (f ∷ fs) p i a b e =
+    let rest = given_fit fs p (suc i) a b (passed_on (field_fits f (get_or p i 0)) (field_refusal f) (get_or p i 0 ∷ []) (checked fs p (suc i) (gives a)) b e) in
     (rw (passed (field_fits f (get_or p i 0)) (field_refusal f) (get_or p i 0 ∷ []) (checked fs p (suc i) (gives a)) b e) rest.0, rest.1)
 
 -- where all fields fit, their tests leave what follows as it is
@@ -101,7 +101,7 @@ dump_given c p f h e =
     let e2 = passed_on (field_fits y.version v) 8 (v ∷ []) (read_run c v p) f e1 in
     let e3 = passed_on (leb (prefix_length c) (length p)) 7 wrong (when_run c v p (read_fields c (numbered_by (length p)) p)) f e2 in
     let r = run_given c v p (read_fields c (numbered_by (length p)) p) f e3 in
-    let a = all_fit_lem (field_list c (numbered_by (length p))) p 0 (fields_at c (numbered_by (length p)) p) f r.1 in
+    let a = given_fit (field_list c (numbered_by (length p))) p 0 (fields_at c (numbered_by (length p)) p) f r.1 in
     record {
       says = sym a.1;
       fits = a.0;
@@ -115,7 +115,7 @@ short_given c p f h e =
     let wrong : List ℕ = code_of c ∷ prefix_length c ∷ length p ∷ [] in
     let e1 = passed_on (eqb (length p) (prefix_length c)) 7 wrong (read_fields c false p) f e in
     let len : length p ≡ prefix_length c = eqb-true (length p) (prefix_length c) (passed (eqb (length p) (prefix_length c)) 7 wrong (read_fields c false p) f e) in
-    let a = all_fit_lem (field_list c false) p 0 (fields_at c false p) f e1 in
+    let a = given_fit (field_list c false) p 0 (fields_at c false p) f e1 in
     let same : fields_at c (numbered_by (length p)) p ≡ fields_at c false p = rw (no_option c h) in
     let list : field_list c (numbered_by (length p)) ≡ field_list c false = rw (no_option c h) in
     record {

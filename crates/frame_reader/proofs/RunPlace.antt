@@ -94,8 +94,8 @@ module _ (bytes : List ℕ) (r : Record) (h : gives r ≡ read_record bytes) whe
       omega (arith, d.long, prefix_there bytes r d)
 
   -- the run ends ahead of the closing F7
-  pub run_length_lem : pick (carries_run r.command) (length bytes - 1 - place_in r) 0 ≡ length (run_in r bytes)
-  run_length_lem = go (carries_run r.command) refl
+  pub run_length_is : pick (carries_run r.command) (length bytes - 1 - place_in r) 0 ≡ length (run_in r bytes)
+  run_length_is = go (carries_run r.command) refl
     where
       go : (t : Bool) → carries_run r.command ≡ t → pick (carries_run r.command) (length bytes - 1 - place_in r) 0 ≡ length (run_in r bytes)
       go true c =
@@ -108,7 +108,7 @@ module _ (bytes : List ℕ) (r : Record) (h : gives r ≡ read_record bytes) whe
   run_within = go (carries_run r.command) refl
     where
       go : (t : Bool) → carries_run r.command ≡ t → place_in r + length (run_in r bytes) ≤ length bytes
-      go true c = rw (← run_length_lem, c) (omega (arith, prefix_fits))
+      go true c = rw (← run_length_is, c) (omega (arith, prefix_fits))
       go false c = rw c (omega arith)
 
   -- the run's place is right: the bytes there are the run
@@ -116,7 +116,7 @@ module _ (bytes : List ℕ) (r : Record) (h : gives r ≡ read_record bytes) whe
   run_lies_there = go (carries_run r.command) refl
     where
       go : (t : Bool) → carries_run r.command ≡ t → take (length (run_in r bytes)) (drop (place_in r) bytes) ≡ run_in r bytes
-      go true c = rw (← run_length_lem, c, run_part bytes (length (field_list r.command r.fields.has_pattern)))
+      go true c = rw (← run_length_is, c, run_part bytes (length (field_list r.command r.fields.has_pattern)))
       go false c = rw c
 
 -- what was read with its run's place: the reader's record, and where its run lies
@@ -125,8 +125,8 @@ pub record WithPlace (bytes : List ℕ) (x : Located) : Type 0 where
   pub starts : x.run.start ≡ place_in x.frame
   pub long : x.run.len ≡ length (run_in x.frame bytes)
 
-pub with_place_lem : (bytes : List ℕ) (x : Located) → gives x ≡ read_located bytes → WithPlace bytes x
-with_place_lem bytes x h = go (read_record bytes) refl h
+pub place_given : (bytes : List ℕ) (x : Located) → gives x ≡ read_located bytes → WithPlace bytes x
+place_given bytes x h = go (read_record bytes) refl h
   where
     go : (o : Outcome Record) → read_record bytes ≡ o → gives x ≡ and_then o (λ r. gives (with_place bytes r)) → WithPlace bytes x
     go (gives r) e g =
@@ -136,11 +136,11 @@ with_place_lem bytes x h = go (read_record bytes) refl h
 
 -- a frame that was read has its run at the place that was told, and the bytes there are the run
 pub read_starts : (bytes : List ℕ) (x : Located) → gives x ≡ read_located bytes → x.run.start ≡ run_place bytes
-read_starts bytes x h = let p = with_place_lem bytes x h in p.starts ∙ rw (← p.found)
+read_starts bytes x h = let p = place_given bytes x h in p.starts ∙ rw (← p.found)
 
-pub read_run_lem : (bytes : List ℕ) (x : Located) → gives x ≡ read_located bytes → take (x.run.start + x.run.len - x.run.start) (drop x.run.start bytes) ≡ run_of bytes
-read_run_lem bytes x h =
-    let p = with_place_lem bytes x h in
+pub run_read : (bytes : List ℕ) (x : Located) → gives x ≡ read_located bytes → take (x.run.start + x.run.len - x.run.start) (drop x.run.start bytes) ≡ run_of bytes
+run_read bytes x h =
+    let p = place_given bytes x h in
     let n : x.run.start + x.run.len - x.run.start ≡ length (run_in x.frame bytes) = omega (arith, p.long) in
     ap (λ (k : ℕ). take k (drop x.run.start bytes)) n ∙ ap (λ (k : ℕ). take (length (run_in x.frame bytes)) (drop k bytes)) p.starts
     ∙ run_lies_there bytes x.frame p.found ∙ rw (← p.found)

@@ -8,7 +8,7 @@ use Rattle.ids.specs.Device.{device_of}
 use Rattle.command.specs.Command.{command_of}
 use Rattle.framing.specs.Framing.{when_framed, when_seven_bit, body, same_bytes}
 pub use Rattle.framing.specs.Framing.{maker}
-use Rattle.message.specs.declared.head.Frame.{Frame}
+use Rattle.message.specs.declared.head.FrameHead.{FrameHead}
 use Rattle.message.specs.Head.{head_from}
 use Rattle.message.specs.Prefix.{carries_run, field_list}
 use Rattle.frame_reader.specs.Payload.{read_payload}
@@ -38,11 +38,11 @@ unfoldable pub read_record : List ℕ → Outcome Record
 read_record bytes = when_framed bytes (when_seven_bit (body bytes) (read_header bytes))
 
 -- the frame with its message
-abbrev pub frame_of : Record → Frame
+abbrev pub frame_of : Record → FrameHead
 frame_of r = record { device = r.device; head = head_from r.command r.fields }
 
 -- the whole reader with the message in place of plain fields: the Rust's `Frame::parse`
-abbrev pub parsed : List ℕ → Outcome Frame
+abbrev pub parsed : List ℕ → Outcome FrameHead
 parsed bytes = and_then (read_record bytes) (λ r. gives (frame_of r))
 
 -- the run of an accepted frame, behind the prefix; empty where the command has none

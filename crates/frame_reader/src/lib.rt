@@ -11,7 +11,7 @@ pub mod payload;
 
 use command::Command;
 use ids::DeviceId;
-use message::{Fields, Frame, Head};
+use message::{Fields, FrameHead, Head};
 use refusal::{OfByte, Refusal};
 
 // What a frame says as plain fields; its run lies beside it, in the caller's bytes.
@@ -79,7 +79,7 @@ pub fn read_record(bytes: &[u8]) -> Result<Record, Refusal>
 }
 
 // The frame's device and message.
-pub fn parse(bytes: &[u8]) -> Result<Frame, Refusal>
+pub fn parse(bytes: &[u8]) -> Result<FrameHead, Refusal>
     ensures { answered result ≡ parsed bytes.now }
 {
     let Record {
@@ -87,7 +87,7 @@ pub fn parse(bytes: &[u8]) -> Result<Frame, Refusal>
         command,
         fields,
     } = read_record(bytes)?;
-    Ok(Frame {
+    Ok(FrameHead {
         device,
         head: Head::from_tested(command, fields),
     })

@@ -19,7 +19,7 @@ pub struct Frame<'a> {
 
 impl<'a> Frame<'a> {
     // What the reader said and the run, as one frame.
-    pub fn with_run(said: message::Frame, run: &'a [u8]) -> Frame<'a>
+    pub fn with_run(said: message::FrameHead, run: &'a [u8]) -> Frame<'a>
         ensures { result ≡ with_run said run.entry }
     {
         Frame {
@@ -42,7 +42,7 @@ impl<'a> Frame<'a> {
     pub fn encode_into(self, out: &mut [u8]) -> Result<usize, Refusal>
         ensures { Writes (frame_write (said self.entry) self.entry.run.now (length out.old)) result out.old out.new }
     {
-        let said = message::Frame {
+        let said = message::FrameHead {
             device: self.device,
             head: self.head,
         };

@@ -10,7 +10,7 @@ use Rattle.command.specs.Command.{code_of, command_of}
 use Rattle.framing.specs.Framing.{when_seven_bit, maker}
 use Rattle.message.specs.declared.fields.Fields.{Fields}
 use Rattle.message.specs.declared.head.Head.{Head}
-use Rattle.message.specs.declared.head.Frame.{Frame}
+use Rattle.message.specs.declared.head.FrameHead.{FrameHead}
 use Rattle.message.specs.Head.{command_of_head, fields_of}
 use Rattle.message.specs.Prefix.{carries_run, prefix_of, checked_fields}
 
@@ -50,7 +50,7 @@ fields_write d k f run room =
     (λ own. and_then (length_for k (length (prefix_of k f)) (length run)) (λ n. room_write d k (prefix_of k f) (own_run k run) room n))
 
 -- 5 first
-abbrev pub frame_write : Frame → List ℕ → ℕ → Outcome (List ℕ)
+abbrev pub frame_write : FrameHead → List ℕ → ℕ → Outcome (List ℕ)
 frame_write x run room =
     unless (device_in_range x.device) 5 (device_byte x.device ∷ [])
     (fields_write x.device (command_of_head x.head) (fields_of x.head) run room)

@@ -12,7 +12,7 @@ ghost use Rattle.frame_writer.specs.Writer.{length_for, head_length, header, row
 
 use command::Command;
 use ids::DeviceId;
-use message::{Fields, Frame, Head};
+use message::{Fields, FrameHead, Head};
 use refusal::{OfByte, Refusal};
 
 // Bytes ahead of the payload, and with the closing F7.
@@ -138,7 +138,7 @@ fn write_fields(
 }
 
 // Writes a message beside its run. Refuses 5, then 8, 12, 9, 10, 11 in wire order, 22, 14, 2; it looks at no run length.
-pub fn encode_into(frame: Frame, run: &[u8], out: &mut [u8]) -> Result<usize, Refusal>
+pub fn encode_into(frame: FrameHead, run: &[u8], out: &mut [u8]) -> Result<usize, Refusal>
     ensures { Writes (frame_write frame run.now (length out.old)) result out.old out.new }
 {
     framing::device_byte(frame.device)?;

@@ -19,7 +19,7 @@ use Rattle.command.specs.Command.{code_of}
 use Rattle.command.proofs.Table.{of_every}
 use Rattle.framing.specs.Framing.{body, first_high}
 use Rattle.framing.proofs.Bytes.{no_high}
-use Rattle.message.specs.declared.head.Frame.{Frame}
+use Rattle.message.specs.declared.head.FrameHead.{FrameHead}
 use Rattle.message.specs.Head.{command_of_head, fields_of}
 use Rattle.message.specs.Prefix.{prefix_of, checked_fields}
 use Rattle.frame_writer.specs.Writer.{row, own_run, length_for, seven_bit_write, room_write, fields_write, frame_write}
@@ -46,7 +46,7 @@ row_body_low device code prefix run h g low =
     ap (λ (l : List ℕ). first_high (body l)) same ∙ ap first_high (body_is xs) ∙ rw (lt-ltb device 0x80 h, lt-ltb code 0x80 g) low
 
 -- what the writer writes is the row of a device in range, tested for bytes of 80 and above: the room plays no part in it
-pub written_row : (x : Frame) (run : List ℕ) (room : ℕ) (bytes : List ℕ) → frame_write x run room ≡ gives bytes
+pub written_row : (x : FrameHead) (run : List ℕ) (room : ℕ) (bytes : List ℕ) → frame_write x run room ≡ gives bytes
     → (device_in_range x.device ≡ true)
     × (seven_bit_write x.device (command_of_head x.head) (prefix_of (command_of_head x.head) (fields_of x.head)) (own_run (command_of_head x.head) run)
     ≡ gives bytes)
@@ -60,7 +60,7 @@ written_row x run room bytes e =
       passed_on (leb two.0 room) 14 (two.0 ∷ room ∷ []) (seven_bit_write x.device c (prefix_of c f) (own_run c run)) bytes two.2,
     )
 
-pub written_body_low : (x : Frame) (run : List ℕ) (room : ℕ) (bytes : List ℕ) → frame_write x run room ≡ gives bytes → first_high (body bytes) ≡ None
+pub written_body_low : (x : FrameHead) (run : List ℕ) (room : ℕ) (bytes : List ℕ) → frame_write x run room ≡ gives bytes → first_high (body bytes) ≡ None
 written_body_low x run room bytes e =
     let c = command_of_head x.head in
     let f = fields_of x.head in

@@ -13,7 +13,7 @@ use Rattle.laws.specs.Choice.{pick, flag}
 use Rattle.laws.proofs.Tests.{split}
 use Rattle.refusal.specs.Outcome.{Outcome, gives}
 use Rattle.ids.specs.Device.{device_byte}
-use Rattle.ids.proofs.device.Range.{device_in_range_lem, device_reads_back}
+use Rattle.ids.proofs.device.Range.{read_device_in_range, device_reads_back}
 use Rattle.command.specs.declared.Command.{Command}
 use Rattle.command.specs.declared.Command.TheVariants as k
 use Rattle.command.specs.Command.{code_of}
@@ -33,7 +33,7 @@ use Rattle.frame_reader.proofs.RunPlace.{same_list, own_list, length_payload, pr
 use Rattle.frame_writer.specs.Writer.{row, own_run}
 use Rattle.frames.specs.Lengths.{listed, lengths_of, pattern_alone, pattern_numbered}
 use Rattle.frames.specs.Table.{prefix_in, Described}
-use Rattle.frames.proofs.RunLengths.{pattern_alone_lem, pattern_numbered_lem, length_passes, run_table}
+use Rattle.frames.proofs.RunLengths.{pattern_alone_printed, pattern_numbered_printed, length_passes, run_table}
 use Rattle.frames.proofs.BodyLow.{device_low, code_low, row_body_low}
 use Rattle.frames.proofs.RoundTrip.{fit_front, prefix_back, run_back, same_row, payload_low, fields_fit}
 use Rattle.frames.proofs.Complete.{accepted_if_tested}
@@ -56,8 +56,8 @@ passes_by_version c f b p n e = go (carries_run c) refl
 
 module _ (bytes : List ℕ) (r : Record) (d : Tested bytes r) where
   -- a run that the command lacks is not there
-  own_run_lem : own_run r.command (run_in r bytes) ≡ run_in r bytes
-  own_run_lem = go (carries_run r.command)
+  own_run_is : own_run r.command (run_in r bytes) ≡ run_in r bytes
+  own_run_is = go (carries_run r.command)
     where
       go : (t : Bool) → pick t (pick t (drop (length (field_list r.command r.fields.has_pattern)) (payload bytes)) []) []
           ≡ pick t (drop (length (field_list r.command r.fields.has_pattern)) (payload bytes)) []
@@ -80,7 +80,7 @@ module _ (bytes : List ℕ) (r : Record) (d : Tested bytes r) where
   behind : length (payload bytes) - prefix_length r.command ≡ flag r.fields.has_pattern + length (run_in r bytes)
   behind =
       let n = length (field_list r.command r.fields.has_pattern) in
-      let run : length (run_in r bytes) ≡ length (payload bytes) - n = ap length (sym own_run_lem ∙ run_back bytes r d) ∙ length-drop n (payload bytes) in
+      let run : length (run_in r bytes) ≡ length (payload bytes) - n = ap length (sym own_run_is ∙ run_back bytes r d) ∙ length-drop n (payload bytes) in
       let same : flag r.fields.has_pattern ≡ flag (optional r.command && numbered_by (length (payload bytes))) = ap flag flag_is in
       let list : n ≡ prefix_length r.command + flag (optional r.command && numbered_by (length (payload bytes))) =
       ap length (own_list bytes r d) ∙ list_length r.command (numbered_by (length (payload bytes))) in
@@ -89,11 +89,11 @@ module _ (bytes : List ℕ) (r : Record) (d : Tested bytes r) where
   described_if_tested : Described bytes r (run_in r bytes)
   described_if_tested =
       record {
-        is = sym (same_row bytes r d) ∙ ap (λ (l : List ℕ). row (device_byte r.device) (code_of r.command) (prefix_in r) l) own_run_lem;
-        device = (device_in_range_lem (get_or bytes 5 0) r.device d.device).1;
+        is = sym (same_row bytes r d) ∙ ap (λ (l : List ℕ). row (device_byte r.device) (code_of r.command) (prefix_in r) l) own_run_is;
+        device = (read_device_in_range (get_or bytes 5 0) r.device d.device).1;
         fits = fields_fit bytes r d;
         own = own_fields;
-        low = ap (λ (l : List ℕ). first_high (prefix_in r ++ l)) (sym own_run_lem) ∙ payload_low bytes r d;
+        low = ap (λ (l : List ℕ). first_high (prefix_in r ++ l)) (sym own_run_is) ∙ payload_low bytes r d;
         long = printed;
       }
     where
@@ -128,11 +128,11 @@ described_if_accepted bytes r e =
 pattern_number : (b : Bool) (n : ℕ) → listed (pick b pattern_numbered pattern_alone) (flag b + n) ≡ true → numbered_by (1 + (flag b + n)) ≡ b
 pattern_number true n h =
     let one : 1 + (1 + n) ≡ 1 + n + 1 = omega arith in
-    ap numbered_by one ∙ pattern_numbered_lem (1 + n) ∙ h
+    ap numbered_by one ∙ pattern_numbered_printed (1 + n) ∙ h
 pattern_number false n h =
     let one : 1 + (0 + n) - 1 ≡ n = omega arith in
     let same : n ≡ 0 + n = omega arith in
-    let alone : accepted 65 n ≡ true = pattern_alone_lem n ∙ ap (listed pattern_alone) same ∙ h in
+    let alone : accepted 65 n ≡ true = pattern_alone_printed n ∙ ap (listed pattern_alone) same ∙ h in
     rw (one, alone)
 
 -- the row between its ends
@@ -235,7 +235,7 @@ module _ (bytes : List ℕ) (r : Record) (run : List ℕ) (d : Described bytes r
   same_run =
       let n = length (field_list r.command r.fields.has_pattern) in
       let between : payload bytes ≡ prefix_in r ++ run = ap payload d.is ∙ payload_is (device_byte r.device) (code_of r.command) (prefix_in r) run in
-      sym (own_run_lem bytes r passes_tests) ∙ run_back bytes r passes_tests ∙ ap (drop n) between ∙ drop_at (prefix_in r) run n prefix_long
+      sym (own_run_is bytes r passes_tests) ∙ run_back bytes r passes_tests ∙ ap (drop n) between ∙ drop_at (prefix_in r) run n prefix_long
 
 -- what is described the reader accepts, and it tells that run
 pub accepted_if_described : (bytes : List ℕ) (r : Record) (run : List ℕ) → Described bytes r run → (read_record bytes ≡ gives r) × (run_of bytes ≡ run)

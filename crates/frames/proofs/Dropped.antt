@@ -62,8 +62,8 @@ module _ (xs ys : List ℕ) (b : ℕ) (e : length xs + 1 ≡ limit) (ok : seven_
       ∙ ap (λ (l : List (List Reported)). replicate limit [] ++ ((report19 ∷ []) ∷ l)) (replicate-append-replicate (length ys) 1 [])
 
 -- a data byte or F7 is the one too many
-too_long : (xs : List ℕ) → seven_bit xs ≡ true → limit ≤ length xs + 1 → meaning [] (0xF0 ∷ xs ++ (0xF7 ∷ [])) ≡ dropped (length xs + 1 - limit)
-too_long xs ok h = split (eqb (length xs + 1) limit) equal more
+drops_one : (xs : List ℕ) → seven_bit xs ≡ true → limit ≤ length xs + 1 → meaning [] (0xF0 ∷ xs ++ (0xF7 ∷ [])) ≡ dropped (length xs + 1 - limit)
+drops_one xs ok h = split (eqb (length xs + 1) limit) equal more
   where
     equal : eqb (length xs + 1) limit ≡ true → meaning [] (0xF0 ∷ xs ++ (0xF7 ∷ [])) ≡ dropped (length xs + 1 - limit)
     equal t =
@@ -101,7 +101,7 @@ accepted_too_long_is_dropped bytes r h long store room =
     let count : length (body bytes) + 1 - limit ≡ length bytes - 1 - limit = omega (arith, size) in
     history_is_step [] fresh store bytes (cleared_matches fresh store room)
     ∙ ap (meaning []) shape
-    ∙ too_long (body bytes) (low_is_seven_bit (body bytes) d.low) (omega (arith, size))
+    ∙ drops_one (body bytes) (low_is_seven_bit (body bytes) d.low) (omega (arith, size))
     ∙ ap dropped count
 
 -- a names dump to unit 0, version 7, bank 0, with a run of n bytes 00

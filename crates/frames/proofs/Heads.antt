@@ -17,7 +17,7 @@ use Rattle.command.specs.declared.Command.TheVariants as k
 use Rattle.command.specs.Payload as y
 use Rattle.command.proofs.Table.{code_reads_back, same_at_every}
 use Rattle.message.specs.declared.fields.Fields.{Fields}
-use Rattle.message.specs.declared.head.Frame.{Frame}
+use Rattle.message.specs.declared.head.FrameHead.{FrameHead}
 use Rattle.ids.specs.Interface.{interface_at, interface_byte}
 use Rattle.message.specs.Fields.{notify_fields}
 use Rattle.message.specs.Head.{command_of_head, fields_of, head_from}
@@ -27,7 +27,7 @@ use Rattle.frame_reader.specs.Payload.{numbered_by}
 use Rattle.frame_reader.specs.Reader.{payload, read_record, frame_of, parsed, run_of}
 use Rattle.frame_reader.proofs.Accepted.{Tested, tested}
 use Rattle.frame_writer.specs.Writer.{fields_write, frame_write}
-use Rattle.frames.proofs.RoundTrip.{written_again_lem}
+use Rattle.frames.proofs.RoundTrip.{fields_written_again}
 use Rattle.frames.proofs.BodyLow.{written_row}
 
 -- the command of a message that was made for a command
@@ -74,7 +74,7 @@ same_fields bytes r d =
     ap (λ (f : Fields). fields_of (head_from r.command f)) d.says.says ∙ fields_back r.command b (payload bytes) d.says.fits ∙ sym d.says.says
 
 -- what the reader gives is written as the bytes that it was read from
-pub frame_written_again : (bytes : List ℕ) (x : Frame) (room : ℕ) → parsed bytes ≡ gives x → length bytes < 2 ^ 64 → length bytes ≤ room
+pub frame_written_again : (bytes : List ℕ) (x : FrameHead) (room : ℕ) → parsed bytes ≡ gives x → length bytes < 2 ^ 64 → length bytes ≤ room
     → frame_write x (run_of bytes) room ≡ gives bytes
 frame_written_again bytes x room e real fits =
     let g = given_first (read_record bytes) (λ r. gives (frame_of r)) x e in
@@ -84,12 +84,12 @@ frame_written_again bytes x room e real fits =
     let fields : fields_write r.device (command_of_head (frame_of r).head) (fields_of (frame_of r).head) (run_of bytes) room ≡ fields_write r.device
     r.command r.fields (run_of bytes) room =
     ap₂ (λ (c : Command) (f : Fields). fields_write r.device c f (run_of bytes) room) (command_back r.command r.fields) (same_fields bytes r d) in
-    subst (λ (z : Frame). frame_write z (run_of bytes) room ≡ gives bytes) same
+    subst (λ (z : FrameHead). frame_write z (run_of bytes) room ≡ gives bytes) same
     (ap (λ (o : Outcome (List ℕ)). unless (device_in_range r.device) 5 (device_byte r.device ∷ []) o) fields
-    ∙ rw (code_reads_back r.command) at (written_again_lem bytes r room g.1 real fits))
+    ∙ rw (code_reads_back r.command) at (fields_written_again bytes r room g.1 real fits))
 
 -- and reads back as itself, its run included
-pub frame_reads_back : (bytes later : List ℕ) (x : Frame) (room : ℕ) → parsed bytes ≡ gives x → length bytes < 2 ^ 64 → length bytes ≤ room
+pub frame_reads_back : (bytes later : List ℕ) (x : FrameHead) (room : ℕ) → parsed bytes ≡ gives x → length bytes < 2 ^ 64 → length bytes ≤ room
     → frame_write x (run_of bytes) room ≡ gives later → (parsed later ≡ gives x) × (run_of later ≡ run_of bytes)
 frame_reads_back bytes later x room e real fits w =
     let once : gives later ≡ gives bytes = sym w ∙ frame_written_again bytes x room e real fits in
@@ -97,7 +97,7 @@ frame_reads_back bytes later x room e real fits w =
     (ap parsed same ∙ e, ap run_of same)
 
 -- the same without a word on the room: what was written says that it was enough
-pub frame_reads_back_in_any_room : (bytes later : List ℕ) (x : Frame) (room : ℕ) → parsed bytes ≡ gives x → length bytes < 2 ^ 64
+pub frame_reads_back_in_any_room : (bytes later : List ℕ) (x : FrameHead) (room : ℕ) → parsed bytes ≡ gives x → length bytes < 2 ^ 64
     → frame_write x (run_of bytes) room ≡ gives later → (parsed later ≡ gives x) × (run_of later ≡ run_of bytes)
 frame_reads_back_in_any_room bytes later x room e real w =
     let again = frame_written_again bytes x (length bytes) e real (omega arith) in

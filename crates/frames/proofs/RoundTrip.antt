@@ -15,7 +15,7 @@ use Rattle.laws.proofs.Tests.{both}
 use Rattle.laws.proofs.Tabulate.{tab_same}
 use Rattle.refusal.specs.Outcome.{gives}
 use Rattle.ids.specs.Device.{device_byte, device_in_range}
-use Rattle.ids.proofs.device.Range.{device_in_range_lem}
+use Rattle.ids.proofs.device.Range.{read_device_in_range}
 use Rattle.command.specs.declared.Command.{Command}
 use Rattle.command.specs.Command.{code_of, commands}
 use Rattle.command.specs.Payload.{Field}
@@ -114,7 +114,7 @@ module _ (bytes : List ℕ) (r : Record) (d : Tested bytes r) where
       let b2 : get_or bytes 2 0 ≡ 0x20 = at 1 (omega arith) in
       let b3 : get_or bytes 3 0 ≡ 0x32 = at 2 (omega arith) in
       let b4 : get_or bytes 4 0 ≡ 0x20 = at 3 (omega arith) in
-      let b5 : device_byte r.device ≡ get_or bytes 5 0 = (device_in_range_lem (get_or bytes 5 0) r.device d.device).0 in
+      let b5 : device_byte r.device ≡ get_or bytes 5 0 = (read_device_in_range (get_or bytes 5 0) r.device d.device).0 in
       let b6 : code_of r.command ≡ get_or bytes 6 0 = read_code commands (get_or bytes 6 0) r.command d.command in
       front_spelled bytes 7 (omega (arith, d.long)) ∙ rw (b0, b1, b2, b3, b4, ← b5, ← b6)
 
@@ -154,14 +154,14 @@ module _ (bytes : List ℕ) (r : Record) (d : Tested bytes r) where
   fields_pass = fit_given (field_list r.command r.fields.has_pattern) (prefix_of r.command r.fields) 0 _ fields_fit
 
 -- what the reader gives as plain fields is written as the bytes that it was read from, wherever they fit
-pub written_again_lem : (bytes : List ℕ) (r : Record) (room : ℕ) → read_record bytes ≡ gives r → length bytes < 2 ^ 64 → length bytes ≤ room
+pub fields_written_again : (bytes : List ℕ) (r : Record) (room : ℕ) → read_record bytes ≡ gives r → length bytes < 2 ^ 64 → length bytes ≤ room
     → record_write r.device (code_of r.command) r.fields (run_of bytes) room ≡ gives bytes
-written_again_lem bytes r room e real fits =
+fields_written_again bytes r room e real fits =
     let d : Tested bytes r = tested bytes r e in
     let c : Command = r.command in
     let run : List ℕ = run_in r bytes in
     let pre : List ℕ = prefix_of c r.fields in
-    let ok : device_in_range r.device ≡ true = (device_in_range_lem (get_or bytes 5 0) r.device d.device).1 in
+    let ok : device_in_range r.device ≡ true = (read_device_in_range (get_or bytes 5 0) r.device d.device).1 in
     let long : length (row (device_byte r.device) (code_of c) pre (own_run c run)) ≡ 8 + (length pre + length (own_run c run)) = simp length-append (omega arith) in
     let whole : length (row (device_byte r.device) (code_of c) pre (own_run c run)) ≡ length bytes = ap length (same_row bytes r d) in
     let size : 8 + length pre + pick (carries_run c) (length run) 0 ≡ length bytes = counts (carries_run c) (length pre) run (length bytes) (omega (arith, long, whole)) in

@@ -23,10 +23,10 @@ all_below : (ℕ → Bool) → ℕ → Bool
 all_below f zero = true
 all_below f (suc n) = f n && all_below f n
 
-all_below_lem : (f : ℕ → Bool) (n i : ℕ) → all_below f n ≡ true → i < n → f i ≡ true
+below_all : (f : ℕ → Bool) (n i : ℕ) → all_below f n ≡ true → i < n → f i ≡ true
 unfolding all_below
-all_below_lem f zero i h b = absurd (omega arith)
-all_below_lem f (suc n) i h b = go (ltb i n) refl (λ e. all_below_lem f n i (both (f n) (all_below f n) h).1 (ltb-true i n e))
+below_all f zero i h b = absurd (omega arith)
+below_all f (suc n) i h b = go (ltb i n) refl (λ e. below_all f n i (both (f n) (all_below f n) h).1 (ltb-true i n e))
   where
     go : (t : Bool) → ltb i n ≡ t → (ltb i n ≡ true → f i ≡ true) → f i ≡ true
     go true e before = before e
@@ -44,58 +44,58 @@ agree : (f : ℕ → Bool) (l : List Stretch) (bound : ℕ) → all_below (λ n.
 agree f l bound below beyond ends n = go (ltb n bound) refl
   where
     go : (t : Bool) → ltb n bound ≡ t → f n ≡ listed l n
-    go true e = alike_same (f n) (listed l n) (all_below_lem (λ k. alike (f k) (listed l k)) bound n below (ltb-true n bound e))
+    go true e = alike_same (f n) (listed l n) (below_all (λ k. alike (f k) (listed l k)) bound n below (ltb-true n bound e))
     go false e =
         let least : bound ≤ n = ltb-false n bound e in
         beyond n least ∙ sym (ends n least)
 
 -- a run that holds a group more is not accepted
-too_long : (raw n : ℕ) → raw + 7 ≤ unpacked_length n → accepted raw n ≡ false
-too_long raw n h = rw (le-ltb (unpacked_length n) (raw + 7) h) (and_false (not (eqb (n % 8) 1) && leb raw (unpacked_length n)))
+a_group_more : (raw n : ℕ) → raw + 7 ≤ unpacked_length n → accepted raw n ≡ false
+a_group_more raw n h = rw (le-ltb (unpacked_length n) (raw + 7) h) (and_false (not (eqb (n % 8) 1) && leb raw (unpacked_length n)))
 
 -- two stretches that end below n
 two_end : (a b d e n : ℕ) → b < n → e < n → listed (lengths a b ∷ lengths d e ∷ []) n ≡ false
 two_end a b d e n p q = rw (lt-leb n b p, lt-leb n e q, and_false (leb a n), and_false (leb d n))
 
-pub program_7 : (n : ℕ) → accepted 245 n ≡ listed programs7 n
+pub programs7_printed : (n : ℕ) → accepted 245 n ≡ listed programs7 n
 unfolding all_below
-program_7 n = agree (accepted 245) programs7 288 refl (λ k h. too_long 245 k (omega arith)) (λ k h. two_end 280 280 282 287 k (omega arith) (omega arith)) n
+programs7_printed n = agree (accepted 245) programs7 288 refl (λ k h. a_group_more 245 k (omega arith)) (λ k h. two_end 280 280 282 287 k (omega arith) (omega arith)) n
 
-pub program_6 : (n : ℕ) → accepted 242 n ≡ listed programs6 n
+pub programs6_printed : (n : ℕ) → accepted 242 n ≡ listed programs6 n
 unfolding all_below
-program_6 n = agree (accepted 242) programs6 285 refl (λ k h. too_long 242 k (omega arith)) (λ k h. two_end 277 280 282 284 k (omega arith) (omega arith)) n
+programs6_printed n = agree (accepted 242) programs6 285 refl (λ k h. a_group_more 242 k (omega arith)) (λ k h. two_end 277 280 282 284 k (omega arith) (omega arith)) n
 
-pub global : (n : ℕ) → accepted 45 n ≡ listed globals n
+pub globals_printed : (n : ℕ) → accepted 45 n ≡ listed globals n
 unfolding all_below
-global n = agree (accepted 45) globals 60 refl (λ k h. too_long 45 k (omega arith)) (λ k h. two_end 52 56 58 59 k (omega arith) (omega arith)) n
+globals_printed n = agree (accepted 45) globals 60 refl (λ k h. a_group_more 45 k (omega arith)) (λ k h. two_end 52 56 58 59 k (omega arith) (omega arith)) n
 
-pub bank_names_lem : (n : ℕ) → accepted 2048 n ≡ listed bank_names n
+pub bank_names_printed : (n : ℕ) → accepted 2048 n ≡ listed bank_names n
 unfolding all_below
-bank_names_lem n = agree (accepted 2048) bank_names 2349 refl (λ k h. too_long 2048 k (omega arith)) (λ k h. two_end 2341 2344 2346 2348 k (omega arith) (omega arith)) n
+bank_names_printed n = agree (accepted 2048) bank_names 2349 refl (λ k h. a_group_more 2048 k (omega arith)) (λ k h. two_end 2341 2344 2346 2348 k (omega arith) (omega arith)) n
 
-pub one_name_lem : (n : ℕ) → accepted 16 n ≡ listed one_name n
+pub one_name_printed : (n : ℕ) → accepted 16 n ≡ listed one_name n
 unfolding all_below
-one_name_lem n = agree (accepted 16) one_name 27 refl (λ k h. too_long 16 k (omega arith)) (λ k h. two_end 19 24 26 26 k (omega arith) (omega arith)) n
+one_name_printed n = agree (accepted 16) one_name 27 refl (λ k h. a_group_more 16 k (omega arith)) (λ k h. two_end 19 24 26 26 k (omega arith) (omega arith)) n
 
-pub chord : (n : ℕ) → accepted 26 n ≡ listed chords n
+pub chords_printed : (n : ℕ) → accepted 26 n ≡ listed chords n
 unfolding all_below
-chord n = agree (accepted 26) chords 38 refl (λ k h. too_long 26 k (omega arith)) (λ k h. two_end 30 32 34 37 k (omega arith) (omega arith)) n
+chords_printed n = agree (accepted 26) chords 38 refl (λ k h. a_group_more 26 k (omega arith)) (λ k h. two_end 30 32 34 37 k (omega arith) (omega arith)) n
 
 -- one stretch; 593 is 1 mod 8
-pub poly_chord : (n : ℕ) → accepted 512 n ≡ listed poly_chords n
+pub poly_chords_printed : (n : ℕ) → accepted 512 n ≡ listed poly_chords n
 unfolding all_below
-poly_chord n = agree (accepted 512) poly_chords 594 refl (λ k h. too_long 512 k (omega arith)) (λ k h. rw (lt-leb k 592 (omega arith), and_false (leb 586 k))) n
+poly_chords_printed n = agree (accepted 512) poly_chords 594 refl (λ k h. a_group_more 512 k (omega arith)) (λ k h. rw (lt-leb k 592 (omega arith), and_false (leb 586 k))) n
 
-pub pattern_alone_lem : (n : ℕ) → accepted 65 n ≡ listed pattern_alone n
+pub pattern_alone_printed : (n : ℕ) → accepted 65 n ≡ listed pattern_alone n
 unfolding all_below
-pattern_alone_lem n = agree (accepted 65) pattern_alone 83 refl (λ k h. too_long 65 k (omega arith)) (λ k h. two_end 75 80 82 82 k (omega arith) (omega arith)) n
+pattern_alone_printed n = agree (accepted 65) pattern_alone 83 refl (λ k h. a_group_more 65 k (omega arith)) (λ k h. two_end 75 80 82 82 k (omega arith) (omega arith)) n
 
 -- n bytes behind the version: one byte more in the payload
-pub pattern_numbered_lem : (n : ℕ) → numbered_by (n + 1) ≡ listed pattern_numbered n
+pub pattern_numbered_printed : (n : ℕ) → numbered_by (n + 1) ≡ listed pattern_numbered n
 unfolding all_below
-pattern_numbered_lem n =
+pattern_numbered_printed n =
     agree (λ k. numbered_by (k + 1)) pattern_numbered 84 refl
-    (λ k h. rw (too_long 65 (k + 1 - 2) (omega arith)) (and_false (not (accepted 65 (k + 1 - 1)))))
+    (λ k h. rw (a_group_more 65 (k + 1 - 2) (omega arith)) (and_false (not (accepted 65 (k + 1 - 1)))))
     (λ k h. two_end 81 81 83 83 k (omega arith) (omega arith)) n
 
 -- the row of either version
@@ -103,8 +103,8 @@ programs : (v n : ℕ) → accepted (pick (eqb v 6) 242 245) n ≡ listed (pick 
 programs v n = go (eqb v 6)
   where
     go : (t : Bool) → accepted (pick t 242 245) n ≡ listed (pick t programs6 programs7) n
-    go true = program_6 n
-    go false = program_7 n
+    go true = programs6_printed n
+    go false = programs7_printed n
 
 or_false : (a : Bool) → (a || false) ≡ a
 or_false true = refl
@@ -121,8 +121,8 @@ patterns m = go (numbered_by m) refl
     go : (t : Bool) → numbered_by m ≡ t → (accepted 65 (m - 1) || t) ≡ listed (pick t pattern_numbered pattern_alone) (m - 1)
     go true e =
         let same : m ≡ m - 1 + 1 = omega (arith, numbered_long m e) in
-        or_true (accepted 65 (m - 1)) ∙ sym e ∙ ap numbered_by same ∙ pattern_numbered_lem (m - 1)
-    go false e = or_false (accepted 65 (m - 1)) ∙ pattern_alone_lem (m - 1)
+        or_true (accepted 65 (m - 1)) ∙ sym e ∙ ap numbered_by same ∙ pattern_numbered_printed (m - 1)
+    go false e = or_false (accepted 65 (m - 1)) ∙ pattern_alone_printed (m - 1)
 
 -- a payload that ends with its fields
 none_left : (l m : ℕ) → l ≤ m → eqb m l ≡ listed no_run (m - l)
@@ -150,11 +150,11 @@ length_passes c v m =
 pub run_table : (c : Command) (v m : ℕ) → prefix_length c ≤ m → length_passes c v m ≡ listed (lengths_of c v (optional c && numbered_by m)) (m - prefix_length c)
 run_table k.ProgramDumpResponse v m h = or_false (accepted (pick (eqb v 6) 242 245) (m - 3)) ∙ programs v (m - 3)
 run_table k.EditBufferDumpResponse v m h = or_false (accepted (pick (eqb v 6) 242 245) (m - 1)) ∙ programs v (m - 1)
-run_table k.GlobalParameterDumpResponse v m h = or_false (accepted 45 (m - 1)) ∙ global (m - 1)
-run_table k.BankProgramNamesDumpResponse v m h = or_false (accepted 2048 (m - 2)) ∙ bank_names_lem (m - 2)
-run_table k.SingleProgramNameDumpResponse v m h = or_false (accepted 16 (m - 2)) ∙ one_name_lem (m - 2)
-run_table k.ChordMemoryDumpResponse v m h = or_false (accepted 26 (m - 1)) ∙ chord (m - 1)
-run_table k.PolyChordMemoryDumpResponse v m h = or_false (accepted 512 (m - 1)) ∙ poly_chord (m - 1)
+run_table k.GlobalParameterDumpResponse v m h = or_false (accepted 45 (m - 1)) ∙ globals_printed (m - 1)
+run_table k.BankProgramNamesDumpResponse v m h = or_false (accepted 2048 (m - 2)) ∙ bank_names_printed (m - 2)
+run_table k.SingleProgramNameDumpResponse v m h = or_false (accepted 16 (m - 2)) ∙ one_name_printed (m - 2)
+run_table k.ChordMemoryDumpResponse v m h = or_false (accepted 26 (m - 1)) ∙ chords_printed (m - 1)
+run_table k.PolyChordMemoryDumpResponse v m h = or_false (accepted 512 (m - 1)) ∙ poly_chords_printed (m - 1)
 run_table k.CalibrationDataDumpResponse v m h = sym (or_false (not (eqb ((m - 1) % 8) 1)))
 run_table k.UserPatternDumpResponse v m h = patterns m
 run_table k.ControlAppNotifyRequest v m h = none_left 1 m h

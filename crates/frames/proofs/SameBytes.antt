@@ -6,7 +6,7 @@ use mathlib.Core.List.{List, ◌++◌}
 use Prim.Native.Nat.{ℕ, ◌^◌, ◌≤◌, ◌<◌}
 use lib.ListN.{length, drop}
 use Rattle.refusal.specs.Outcome.{Outcome, gives, refused, and_then, answered, count_of, after, Writes}
-use Rattle.message.specs.declared.head.Frame.{Frame}
+use Rattle.message.specs.declared.head.FrameHead.{FrameHead}
 use Rattle.frame_reader.specs.Reader.{parsed, run_of}
 use Rattle.frame_writer.specs.Writer.{frame_write}
 use Rattle.frame_view.specs.Again.{written_again}
@@ -14,9 +14,9 @@ use Rattle.frames.proofs.Heads.{frame_written_again}
 use Rattle.refusal.specs.declared.Refusal.{Refusal}
 
 -- an accepted frame, with room for it, is written as itself
-pub written_as_read : (bytes : List ℕ) (x : Frame) (room : ℕ) → parsed bytes ≡ gives x → length bytes < 2 ^ 64 → length bytes ≤ room → written_again bytes room ≡ gives bytes
+pub written_as_read : (bytes : List ℕ) (x : FrameHead) (room : ℕ) → parsed bytes ≡ gives x → length bytes < 2 ^ 64 → length bytes ≤ room → written_again bytes room ≡ gives bytes
 written_as_read bytes x room e real fits =
-    ap (λ (o : Outcome Frame). and_then o (λ y. frame_write y (run_of bytes) room)) e ∙ frame_written_again bytes x room e real fits
+    ap (λ (o : Outcome FrameHead). and_then o (λ y. frame_write y (run_of bytes) room)) e ∙ frame_written_again bytes x room e real fits
 
 -- a count is the answer where one is given
 count_given : (r : Result ℕ Refusal) (n : ℕ) → answered r ≡ gives n → r ≡ Ok n
@@ -24,7 +24,7 @@ count_given (Ok m) n e = let same : m ≡ n = cc in ap (λ (k : ℕ). Ok k) same
 count_given (Err f) n e = cc
 
 -- a call that writes an accepted frame again answers its length, and the frame stands at the front of the buffer, whose other bytes stay
-pub same_bytes_again : (bytes out later : List ℕ) (x : Frame) (r : Result ℕ Refusal) → parsed bytes ≡ gives x → length bytes < 2 ^ 64 → length bytes ≤ length out
+pub same_bytes_again : (bytes out later : List ℕ) (x : FrameHead) (r : Result ℕ Refusal) → parsed bytes ≡ gives x → length bytes < 2 ^ 64 → length bytes ≤ length out
     → Writes (written_again bytes (length out)) r out later → (r ≡ Ok (length bytes)) × (later ≡ bytes ++ drop (length bytes) out)
 same_bytes_again bytes out later x r e real fits w =
     let same : written_again bytes (length out) ≡ gives bytes = written_as_read bytes x (length out) e real fits in
@@ -34,5 +34,5 @@ same_bytes_again bytes out later x r e real fits w =
 pub refused_again : (bytes out later : List ℕ) (n : ℕ) (values : List ℕ) (r : Result ℕ Refusal) → parsed bytes ≡ refused n values
     → Writes (written_again bytes (length out)) r out later → (answered r ≡ refused n values) × (later ≡ out)
 refused_again bytes out later n values r e w =
-    let same : written_again bytes (length out) ≡ refused n values = ap (λ (o : Outcome Frame). and_then o (λ y. frame_write y (run_of bytes) (length out))) e in
+    let same : written_again bytes (length out) ≡ refused n values = ap (λ (o : Outcome FrameHead). and_then o (λ y. frame_write y (run_of bytes) (length out))) e in
     (w.answers ∙ ap count_of same, w.leaves ∙ ap (λ (o : Outcome (List ℕ)). after o out) same)

@@ -1,5 +1,6 @@
 -- As many bits of a channel's two words are set as keys of the channel are held.
-use Rattle.std.proofs.Common.{◌≡◌, ℕ, zero, suc, ◌+◌, ◌/◌, ◌%◌, ◌^◌, ◌<◌, Bool, true, false, List, [], eqb, get_or, count_ones, refl, ap, ap₂, sym, ◌∙◌, arith, add_comm}
+use Rattle.std.proofs.Common.{◌≡◌, ℕ, zero, suc, ◌+◌, ◌/◌, ◌%◌, ◌^◌, ◌<◌, Bool, true, false, List}
+use Rattle.std.proofs.Common.{[], eqb, get_or, count_ones, refl, ap, ap₂, sym, ◌∙◌, arith, add_comm}
 use native.Mathlib.Numerals.{unary_clauses}
 use native.Mathlib.Nat.{mod-lt, mod-eq_of_lt}
 use lib.Count.{ones-ones}

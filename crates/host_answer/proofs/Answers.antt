@@ -12,9 +12,9 @@ use Rattle.host_answer.specs.Answer.{answer_of, no_record, Sends, SendsIf}
 
 module _ {A : Type 0} (o : Outcome A) (inside : A → ℕ) where
   -- the number inside what was made
-  pub number_told_lem : (x : A) (n : ℕ) (r : Answer) → gives x ≡ o → n ≡ inside x → r ≡ answer_of (gives n)
+  pub number_of_given : (x : A) (n : ℕ) (r : Answer) → gives x ≡ o → n ≡ inside x → r ≡ answer_of (gives n)
       → r ≡ answer_of (and_then o (λ y. gives (inside y)))
-  number_told_lem x n r e i a =
+  number_of_given x n r e i a =
       a ∙ ap (λ (m : ℕ). answer_of (gives m)) i ∙ ap (λ (p : Outcome A). answer_of (and_then p (λ y. gives (inside y)))) e
 
   pub refusal_told : (e : Refusal) (r : Answer) → refusal e ≡ o → r ≡ answer_of (refusal e) → r ≡ answer_of (and_then o (λ y. gives (inside y)))

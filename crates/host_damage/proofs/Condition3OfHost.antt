@@ -80,12 +80,12 @@ pub by_host_singly : (d : Decoder) (store bytes : List ℕ) → sound d ≡ true
 by_host_singly = thin_singly by_host.Contract by_host.used by_host.tells thin
 
 -- from the bytes of every state that a reset leaves
-pub by_host_lem : (d : Decoder) → Promises by_host (encoded (reset d))
-by_host_lem = thin_promises by_host.Contract by_host.used by_host.tells thin
+pub promises_by_host : (d : Decoder) → Promises by_host (encoded (reset d))
+promises_by_host = thin_promises by_host.Contract by_host.used by_host.tells thin
 
 -- CONDITION 3 for lists of `dm_feed` calls, from fourteen bytes 00
 pub condition_3_of_host : Condition3 by_host (replicate 14 0)
-condition_3_of_host = (by_host_lem fresh).condition_3
+condition_3_of_host = (promises_by_host fresh).condition_3
 
 -- the contract has an answer to every call, also on bytes that are no state's, and so the calls can be made
 answers : Answers by_host

@@ -17,7 +17,7 @@ use Rattle.frame_reader.specs.declared.Record.{Record}
 use Rattle.frame_reader.specs.Reader.{read_record, run_in, run_if, place_in}
 use Rattle.frame_reader.proofs.RunPlace.{run_lies_there}
 use Rattle.frame_writer.specs.Writer.{record_write}
-use Rattle.frames.proofs.RoundTrip.{written_again_lem}
+use Rattle.frames.proofs.RoundTrip.{fields_written_again}
 use Rattle.host_answer.specs.declared.Answer.{Answer}
 use Rattle.host_answer.specs.Answer.{answer_of, Sends, SendsIf}
 use Rattle.host_answer.specs.Device.{device_from, everyone_of}
@@ -66,7 +66,7 @@ module _ (bytes : List ℕ) (r : Record) (e : read_record bytes ≡ gives r) whe
       ∙ ap (λ (x : Fields). record_write r.device (code_of r.command) x run room) (fields_again r.fields)
       ∙ ap (λ (l : List ℕ). record_write r.device (code_of r.command) r.fields l room)
       (run_lies_there bytes r (sym e) ∙ ap (λ (o : Outcome Record). run_if o bytes) (sym e))
-      ∙ written_again_lem bytes r room e real fits
+      ∙ fields_written_again bytes r room e real fits
 
 -- "A frame read and written again is the same bytes", of the entry points by their contracts. Where dm_frame_read told a of a frame that it read,
 -- and dm_frame_write is handed a's numbers, the run from its place in the caller's bytes and a buffer as long as the frame or longer, the frame's

@@ -9,7 +9,7 @@ use Rattle.command.specs.Command.{command_of}
 use Rattle.message.specs.declared.fields.Fields.{Fields}
 use Rattle.message.specs.declared.head.Head.{Head}
 use Rattle.message.specs.declared.head.Head.TheVariants as h
-use Rattle.message.specs.declared.head.Frame.{Frame}
+use Rattle.message.specs.declared.head.FrameHead.{FrameHead}
 use Rattle.ids.specs.Interface.{interface_at, interface_byte}
 use Rattle.message.specs.Fields.{free_fields, request_fields, dump_fields, pattern_fields, notify_fields}
 use Rattle.message.specs.Prefix.{checked_fields}
@@ -127,7 +127,7 @@ version_of_head h.PolyChordMemoryDumpRequest = None
 version_of_head (h.PolyChordMemoryDumpResponse a) = Some a
 
 -- "5, also for a unit above 0F, then 6 where the command is given as a byte, then 8, 12, 9, 10, 11 in wire order"
-abbrev pub record_frame : DeviceId → ℕ → Fields → Outcome Frame
+abbrev pub record_frame : DeviceId → ℕ → Fields → Outcome FrameHead
 record_frame d c f =
     unless (device_in_range d) 5 (device_byte d ∷ [])
     (and_then (command_of c) (λ k. and_then (checked_fields k f) (λ own. gives (record { device = d; head = head_from k own }))))

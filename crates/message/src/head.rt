@@ -107,7 +107,7 @@ pub enum Head {
 
 // Whom a frame is for, and what it says.
 #[derive(Clone, Copy, Debug, PartialEq, Eq)]
-pub struct Frame {
+pub struct FrameHead {
     pub device: DeviceId,
     pub head: Head,
 }
@@ -295,13 +295,13 @@ fn tested_pattern(has: bool, number: u8) -> Option<PatternNumber>
 }
 
 // The frame of plain numbers. Refuses 5, 6, then 8, 12, 9, 10, 11 in wire order.
-pub fn from_record(device: DeviceId, command: u8, fields: Fields) -> Result<Frame, Refusal>
+pub fn from_record(device: DeviceId, command: u8, fields: Fields) -> Result<FrameHead, Refusal>
     ensures { answered result ≡ record_frame device command fields }
 {
     framing::device_byte(device)?;
     let known = Command::from_byte(command)?;
     let own = check(known, fields)?;
-    Ok(Frame {
+    Ok(FrameHead {
         device,
         head: Head::from_tested(known, own),
     })

@@ -6,5 +6,5 @@ pub mod head;
 pub mod prefix;
 
 pub use fields::Fields;
-pub use head::{Frame, Head};
+pub use head::{FrameHead, Head};
 pub use prefix::Prefix;

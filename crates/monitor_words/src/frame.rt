@@ -3,16 +3,16 @@ use command::Command;
 use ids::{Bank, DeviceId, ProgramNumber};
 use inquiry::identity::NON_REALTIME;
 use inquiry::{Identity, Version};
-use message::{Frame, Head};
+use message::{FrameHead, Head};
 use refusal::{OfByte, Refusal};
 use std::fmt;
 use text::refusals::{Details, word};
 
 // What a frame says, as the frame reader and the inquiry's readers have it.
 #[derive(Clone, Copy)]
-pub struct Words<'a>(pub &'a [u8]);
+pub struct FrameWords<'a>(pub &'a [u8]);
 
-impl fmt::Display for Words<'_> {
+impl fmt::Display for FrameWords<'_> {
     fn fmt<W: fmt::Write>(&self, f: &mut fmt::Formatter<W>) -> fmt::Result {
         let bytes = self.0;
         if bytes.get(1) == Some(&NON_REALTIME) {
@@ -51,13 +51,13 @@ impl fmt::Display for Device {
 // The command, its version where it has one, the device, the fields, and how long the run is where there is one.
 fn frame_words<W: fmt::Write>(
     f: &mut fmt::Formatter<W>,
-    frame: Frame,
+    frame: FrameHead,
     run_len: usize,
 ) -> fmt::Result {
     let device = Device(frame.device);
     let head = frame.head;
     let name = command_name(head.command());
-    let fields = Fields(head);
+    let fields = FieldWords(head);
     match head.version() {
         None => write!(f, "{name}, to {device}{fields}"),
         Some(version) => {
@@ -111,9 +111,9 @@ impl fmt::Display for InBank {
 
 // A message's fields but for the version, each behind a comma.
 #[derive(Clone, Copy)]
-struct Fields(Head);
+struct FieldWords(Head);
 
-impl fmt::Display for Fields {
+impl fmt::Display for FieldWords {
     fn fmt<W: fmt::Write>(&self, f: &mut fmt::Formatter<W>) -> fmt::Result {
         match self.0 {
             Head::ControlAppNotifyRequest { reserved } => write!(f, ", free byte {reserved}"),

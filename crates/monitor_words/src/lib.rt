@@ -41,15 +41,15 @@ impl fmt::Display for Bytes<'_> {
 
 // A report's words. A frame is the front of the store.
 #[derive(Clone, Copy)]
-struct Words<'a> {
+struct ReportWords<'a> {
     store: &'a [u8],
     report: Report,
 }
 
-impl fmt::Display for Words<'_> {
+impl fmt::Display for ReportWords<'_> {
     fn fmt<W: fmt::Write>(&self, f: &mut fmt::Formatter<W>) -> fmt::Result {
         match self.report {
-            Report::SysEx(len) => write!(f, "{}", frame::Words(text::front(self.store, len))),
+            Report::SysEx(len) => write!(f, "{}", frame::FrameWords(text::front(self.store, len))),
             Report::SysExInterrupted => {
                 f.write_str("damage: 18 SysExInterrupted, a frame broken off and dropped")
             }
@@ -73,7 +73,7 @@ pub fn line(alloc: Global, place: u64, store: &[u8], report: Report) -> Result<S
         _ => encoded,
     };
     let front = format!(in alloc; "{place:<PLACE_WIDTH$}{}", Bytes(bytes))?;
-    format!(in alloc; "{front:<WORDS_COLUMN$}{}", Words { store, report })
+    format!(in alloc; "{front:<WORDS_COLUMN$}{}", ReportWords { store, report })
 }
 
 // Is it clock or active sensing, the two that fill a capture?

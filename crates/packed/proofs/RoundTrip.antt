@@ -23,12 +23,12 @@ abbrev pub Bytes : List ℕ → Type 0
 Bytes raw = (i : ℕ) → get_or raw i 0 < 256
 
 -- one bit of a sum of seven bits
-seven : (a b c d e f g : ℕ) → ℕ
-seven a b c d e f g = 0 + a * 2 ^ 0 + b * 2 ^ 1 + c * 2 ^ 2 + d * 2 ^ 3 + e * 2 ^ 4 + f * 2 ^ 5 + g * 2 ^ 6
+seven_places : (a b c d e f g : ℕ) → ℕ
+seven_places a b c d e f g = 0 + a * 2 ^ 0 + b * 2 ^ 1 + c * 2 ^ 2 + d * 2 ^ 3 + e * 2 ^ 4 + f * 2 ^ 5 + g * 2 ^ 6
 
 module _ (a b c d e f g : ℕ) (ha : a < 2) (hb : b < 2) (hc : c < 2) (hd : d < 2) (he : e < 2) (hf : f < 2) (hg : g < 2) where
-  bit : (i : ℕ) → i < 7 → seven a b c d e f g / 2 ^ i % 2 ≡ get_or (a ∷ b ∷ c ∷ d ∷ e ∷ f ∷ g ∷ []) i 0
-  unfolding seven
+  bit : (i : ℕ) → i < 7 → seven_places a b c d e f g / 2 ^ i % 2 ≡ get_or (a ∷ b ∷ c ∷ d ∷ e ∷ f ∷ g ∷ []) i 0
+  unfolding seven_places
   bit zero h = omega arith
   bit (suc zero) h = omega arith
   bit (suc (suc zero)) h = omega arith
@@ -40,7 +40,7 @@ module _ (a b c d e f g : ℕ) (ha : a < 2) (hb : b < 2) (hc : c < 2) (hd : d < 
 
 -- the top bits of a group: bit i is the top bit of raw byte i
 top_bit : (raw : List ℕ) (p i : ℕ) → Bytes raw → i < 7 → tops raw p 7 / 2 ^ i % 2 ≡ get_or raw (p + i) 0 / 128
-unfolding tops seven
+unfolding tops seven_places
 top_bit raw p i bytes h =
     bit (x 0) (x 1) (x 2) (x 3) (x 4) (x 5) (x 6) (small 0) (small 1) (small 2) (small 3) (small 4) (small 5) (small 6) i h
     ∙ nth i h

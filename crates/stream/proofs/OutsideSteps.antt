@@ -40,7 +40,7 @@ status_known x h a z m p q e =
     rw (ne_eqb m 0 (λ n. omega (arith, n, e)), status, pending) refl
 
 -- the number m and the data bytes say a sound closed state, and are all that it says
-pub record Outside (m a z : ℕ) : Type 0 where
+pub record SaysClosed (m a z : ℕ) : Type 0 where
   pub fine : sound (closed_by m a z) ≡ true
   pub number : waiting_number (closed_by m a z) ≡ m
 
@@ -51,7 +51,7 @@ pub record Force (m a z : ℕ) : Type 0 where
   pub number : m ≡ 256 + 65_536 * status_in m + 16_777_216 * (m / 16_777_216)
   pub pending : 16_777_216 ≤ m → (m / 16_777_216 ≡ 1) × (a < 0x80) × (data_length (status_in m) ≡ 2)
 
-pub force : (m a z : ℕ) → Outside m a z → (m ≡ 0 → ⊥) → Force m a z
+pub force : (m a z : ℕ) → SaysClosed m a z → (m ≡ 0 → ⊥) → Force m a z
 force m a z o h =
     let n : eqb m 0 ≡ false = ne_eqb m 0 h in
     let waits : waits_soundly (Some (status_in m)) (m / 16_777_216) a ≡ true =
@@ -73,7 +73,7 @@ force m a z o h =
         (eqb-true _ 1 q.0, omega (arith, leb-true a 127 r.0), eqb-true _ 2 r.1)
 
 -- the bytes of what waits
-pub outside_stored : (l : List ℕ) → FrontFree l → (m a : ℕ) → Outside m a (get_or l 13 0) → put_waiting m a l ≡ encoded (closed_by m a (get_or l 13 0))
+pub outside_stored : (l : List ℕ) → FrontFree l → (m a : ℕ) → SaysClosed m a (get_or l 13 0) → put_waiting m a l ≡ encoded (closed_by m a (get_or l 13 0))
 outside_stored l free m a o =
     split (eqb m 0)
     (λ t. waiting_stored l free None 0 a m (omega arith) (omega arith) (omega (arith, eqb-true m 0 t)) ∙ sym (ap encoded (none (eqb-true m 0 t))))
@@ -94,9 +94,9 @@ outside_stored l free m a o =
 pub record Leads (m a z b m' a' : ℕ) (store : List ℕ) : Type 0 where
   pub steps : silent (closed_by m' a' z) ≡ step (closed_by m a z) b
   pub keeps : store ≡ stored (closed_by m a z) store b
-  pub outside : Outside m' a' z
+  pub outside : SaysClosed m' a' z
 
-leads : (m a z b m' a' : ℕ) (store : List ℕ) → Outside m a z → (silent (closed_by m' a' z) ≡ step (closed_by m a z) b) × (store ≡ stored (closed_by m a z) store b)
+leads : (m a z b m' a' : ℕ) (store : List ℕ) → SaysClosed m a z → (silent (closed_by m' a' z) ≡ step (closed_by m a z) b) × (store ≡ stored (closed_by m a z) store b)
     → waiting_number (closed_by m' a' z) ≡ m' → Leads m a z b m' a' store
 leads m a z b m' a' store o p q =
     record {
@@ -108,7 +108,7 @@ leads m a z b m' a' store o p q =
 status_number : (x h a z m : ℕ) → x < 256 → h < 256 → m ≡ 256 + 65_536 * x + 16_777_216 * h → waiting_number (closed_by m a z) ≡ m
 status_number x h a z m p q e = ap waiting_number (status_known x h a z m p q e) ∙ omega (arith, e)
 
-module _ (m a z b : ℕ) (store : List ℕ) (o : Outside m a z) where
+module _ (m a z b : ℕ) (store : List ℕ) (o : SaysClosed m a z) where
   abbrev d : Decoder
   d = closed_by m a z
 
@@ -164,7 +164,7 @@ pub status_back : (m : ℕ) → 16_777_216 ≤ m → status_in (m - 16_777_216) 
 status_back m h = omega arith
 
 -- the number of a status, without what is pending
-module _ (m a z : ℕ) (o : Outside m a z) (n : m ≡ 0 → ⊥) where
+module _ (m a z : ℕ) (o : SaysClosed m a z) (n : m ≡ 0 → ⊥) where
   pub takes_some : 0 < data_length (status_in m)
   takes_some = (force m a z o n).takes
 
@@ -184,7 +184,7 @@ module _ (m a z : ℕ) (o : Outside m a z) (n : m ≡ 0 → ⊥) where
       under_two e = (alone, omega (arith, takes_some, at_most_two (status_in m), eqb-false (data_length (status_in m)) 1 (tested ∙ e)))
 
 -- what reports
-module _ (l : List ℕ) (free : FrontFree l) (m a b n : ℕ) (out : Outside m a (get_or l 13 0)) (r : FedAnswer) (later : List ℕ) (store : List ℕ) where
+module _ (l : List ℕ) (free : FrontFree l) (m a b n : ℕ) (out : SaysClosed m a (get_or l 13 0)) (r : FedAnswer) (later : List ℕ) (store : List ℕ) where
   abbrev e : Decoder
   e = closed_by m a (get_or l 13 0)
 

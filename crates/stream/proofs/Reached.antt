@@ -37,12 +37,12 @@ use Rattle.stream.proofs.On.{On, on_begins, on_ends, on_stray, on_quiet, on_answ
 use Rattle.stream.proofs.Stores.{closed_of, closed_by, waiting_cleared}
 use Rattle.stream.proofs.FrameSteps.{realtime_answers}
 use Rattle.stream.proofs.InFrame.{unnamed_quiet}
-use Rattle.stream.proofs.OutsideSteps.{Outside, status_known, outside_stored, Leads, start_opens, tune_ends}
+use Rattle.stream.proofs.OutsideSteps.{SaysClosed, status_known, outside_stored, Leads, start_opens, tune_ends}
 
 -- outside a frame: the numbers say the state that the walk has come to
 pub record Closed (w : Walked) (bytes state store : List ℕ) (m a i : ℕ) : Type 0 where
   pub free : FrontFree state
-  pub numbers : Outside m a (get_or state 13 0)
+  pub numbers : SaysClosed m a (get_or state 13 0)
   pub on : On w bytes (closed_by m a (get_or state 13 0)) store i
 
 -- a run within so many bytes is part of the run
@@ -80,8 +80,9 @@ by_number (Some x) h a z w =
     few e = split (eqb h 0) (λ t. omega (arith, eqb-true h 0 t))
         (λ t. omega (arith, eqb-true h 1 (both (eqb h 1) _ (ap (λ (u : Bool). u || (eqb h 1 && (leb a 127 && eqb (data_length x) 2))) (sym t) ∙ e)).0))
 
-closed_begins : (m a : ℕ) (l store bytes : List ℕ) → l ≡ encoded (state_of l) → length l ≡ 14 → sound (state_of l) ≡ true → m ≡ waiting_number (state_of l) → a ≡ (state_of l).data0
-    → (state_of l).in_sysex ≡ false → Closed (walk (state_of l) store bytes) bytes l store m a 0
+closed_begins : (m a : ℕ) (l store bytes : List ℕ) → l ≡ encoded (state_of l) → length l ≡ 14 → sound (state_of l) ≡ true
+    → m ≡ waiting_number (state_of l) → a ≡ (state_of l).data0 → (state_of l).in_sysex ≡ false
+    → Closed (walk (state_of l) store bytes) bytes l store m a 0
 closed_begins m a l store bytes is long fine m-is a-is closed =
     let d = state_of l in
     let parts = closed_part d fine closed in
@@ -96,7 +97,8 @@ closed_begins m a l store bytes is long fine m-is a-is closed =
     }
 
 -- an open sound state is what its length says
-open_begins : (entry : ℕ) (l store bytes : List ℕ) → l ≡ encoded (state_of l) → length l ≡ 14 → sound (state_of l) ≡ true → entry ≡ (state_of l).len → (state_of l).in_sysex ≡ true
+open_begins : (entry : ℕ) (l store bytes : List ℕ) → l ≡ encoded (state_of l) → length l ≡ 14 → sound (state_of l) ≡ true
+    → entry ≡ (state_of l).len → (state_of l).in_sysex ≡ true
     → Open (walk (state_of l) store bytes) bytes l store entry 0
 open_begins entry l store bytes is long fine entry-is opens =
     let d = state_of l in
@@ -166,7 +168,7 @@ module _ {w : Walked} {state₀ store₀ bytes state store : List ℕ} {at m a i
     z : ℕ
     z = get_or state 13 0
 
-    still : (m' a' j : ℕ) → j ≤ length bytes → Outside m' a' (get_or state 13 0) → On w bytes (closed_by m' a' (get_or state 13 0)) store j → Reached w
+    still : (m' a' j : ℕ) → j ≤ length bytes → SaysClosed m' a' (get_or state 13 0) → On w bytes (closed_by m' a' (get_or state 13 0)) store j → Reached w
         state₀ store₀ bytes state store at m' a' j
     still m' a' j within numbers on =
         record {

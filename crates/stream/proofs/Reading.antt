@@ -169,8 +169,9 @@ module _ (l : List ℕ) (long : length l ≡ 14) (bytes : (i : ℕ) → get_or l
   taken_walks store bs room t = let x = says t in rw x.is (ready_walks (state_of l) store bs room x.fine)
 
   -- an open frame's state is taken where its length is within the limit and nothing waits
-  open_taken_lem : get_or l 0 0 ≡ 1 → get_or l 9 0 ≡ 0 → get_or l 10 0 ≡ 0 → get_or l 11 0 ≡ 0 → 1 ≤ state_length l → state_length l ≤ limit → taken F H M (get_or l 12 0) ≡ true
-  open_taken_lem frame flag none pending some fits =
+  open_is_taken : get_or l 0 0 ≡ 1 → get_or l 9 0 ≡ 0 → get_or l 10 0 ≡ 0 → get_or l 11 0 ≡ 0
+      → 1 ≤ state_length l → state_length l ≤ limit → taken F H M (get_or l 12 0) ≡ true
+  open_is_taken frame flag none pending some fits =
       let small : state_length l < 65_536 = omega (arith, fits, limit_small) in
       let h : H ≡ 0 = omega (arith, small) in
       let m : M ≡ 0 = omega (arith, small, flag, none, pending) in
@@ -228,7 +229,7 @@ module _ (l : List ℕ) (long : length l ≡ 14) (bytes : (i : ℕ) → get_or l
       opened f g flag none =
           let a = both (leb 1 (state_length l)) (leb (state_length l) limit && (true && eqb (get_or l 11 0) 0)) (rw (f, g) at fine) in
           let b = both (leb (state_length l) limit) (true && eqb (get_or l 11 0) 0) a.1 in
-          open_taken_lem (eqb-true _ 1 f) flag none (eqb-true _ 0 b.1) (leb-true 1 _ a.0) (leb-true _ limit b.0)
+          open_is_taken (eqb-true _ 1 f) flag none (eqb-true _ 0 b.1) (leb-true 1 _ a.0) (leb-true _ limit b.0)
 
       closed : eqb (get_or l 0 0) 1 ≡ false → eqb (get_or l 9 0) 1 ≡ false → get_or l 0 0 ≡ 0 → get_or l 9 0 ≡ 0 → get_or l 10 0 ≡ 0 → taken F H M (get_or l 12 0) ≡ true
       closed f g frame flag none =

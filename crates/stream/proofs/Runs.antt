@@ -46,8 +46,8 @@ stored_ahead : (store : List ℕ) (at b : ℕ) (xs : List ℕ) → at + suc (len
 stored_ahead store at b xs h =
     ap (λ (l : List ℕ). window l (at + 1) xs) (stored_one store at b (omega arith)) ∙ window_after store at (b ∷ []) xs (at + 1) (omega arith) (omega arith)
 
-no_more : (n : ℕ) (l : List ℕ) → length (take n l) ≤ n
-no_more n l = simp length-take (omega arith)
+take_no_more : (n : ℕ) (l : List ℕ) → length (take n l) ≤ n
+take_no_more n l = simp length-take (omega arith)
 
 -- an open frame of n bytes with these data bytes
 abbrev pub open_of : ℕ → ℕ → ℕ → Decoder
@@ -73,7 +73,7 @@ frame_run (suc n) at a z store (b ∷ bs) h l room =
     ∙ ap (further 1) (frame_run n (at + 1) a z (set store at b) bs (omega (arith, e, h)) (omega arith) (rw (length-set store at b) room))
     ∙ one_ahead n _
     ∙ ap₂ (λ (m : ℕ) (x : List ℕ). further (suc n) (walk (open_of m a z) x (drop n bs))) (omega arith)
-    (stored_ahead store at b (take n bs) (omega (arith, no_more n bs))))
+    (stored_ahead store at b (take n bs) (omega (arith, take_no_more n bs))))
     (λ _ e. absurd (omega (arith, e, h)))
 
 -- a data byte with no status in force changes nothing

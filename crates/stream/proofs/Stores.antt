@@ -35,12 +35,13 @@ front_known l free = sym free.1 ∙ ap (λ (x : List ℕ). put_word 0 x 0) (four
 
 -- bytes with nothing waiting
 middle_known : (l : List ℕ) → MiddleFree l
-    → l ≡ get_or l 0 0 ∷ get_or l 1 0 ∷ get_or l 2 0 ∷ get_or l 3 0 ∷ get_or l 4 0 ∷ get_or l 5 0 ∷ get_or l 6 0 ∷ get_or l 7 0 ∷ 0 ∷ 0 ∷ 0 ∷ 0 ∷ get_or l 12 0 ∷ get_or l 13 0 ∷ []
+    → l ≡ get_or l 0 0 ∷ get_or l 1 0 ∷ get_or l 2 0 ∷ get_or l 3 0 ∷ get_or l 4 0 ∷ get_or l 5 0 ∷ get_or l 6 0 ∷ get_or l 7 0
+    ∷ 0 ∷ 0 ∷ 0 ∷ 0 ∷ get_or l 12 0 ∷ get_or l 13 0 ∷ []
 middle_known l free = sym free.1 ∙ ap (put_middle 0) (fourteen l free.0)
 
-flag_small : (v : Option ℕ) → status_flag v < 256
-flag_small None = omega arith
-flag_small (Some b) = omega arith
+status_flag_small : (v : Option ℕ) → status_flag v < 256
+status_flag_small None = omega arith
+status_flag_small (Some b) = omega arith
 
 -- a number's four bytes
 four_stored : (m f b h : ℕ) → f < 256 → b < 256 → h < 256 → m ≡ 256 * f + 65_536 * b + 16_777_216 * h
@@ -51,7 +52,7 @@ four_stored m f b h p q r e = (omega arith, omega arith, omega arith, omega arit
 module _ (l : List ℕ) (free : FrontFree l) (v : Option ℕ) (h a m : ℕ) (byte : status_byte v < 256) (few : h < 256)
     (m-is : m ≡ 256 * status_flag v + 65_536 * status_byte v + 16_777_216 * h) where
   digits : (m % 256 ≡ 0) × (m / 0x100 % 256 ≡ status_flag v) × (m / 0x1_0000 % 256 ≡ status_byte v) × (m / 0x100_0000 % 256 ≡ h)
-  digits = four_stored m (status_flag v) (status_byte v) h (flag_small v) byte few m-is
+  digits = four_stored m (status_flag v) (status_byte v) h (status_flag_small v) byte few m-is
 
   pub waiting_stored : put_waiting m a l ≡ encoded (closed_of v h a (get_or l 13 0))
   waiting_stored = ap (put_waiting m a) (front_known l free) ∙ rw (digits.0, digits.1, digits.2, digits.3) refl

@@ -183,7 +183,8 @@ realtime_told b n small h =
     four : 0xFE ≤ b → (b ≡ 0xFE → ⊥) → b ≡ 0xFF
     four l m = omega arith
 
-    last : 0xF8 ≤ b → (b ≡ 0xF9 → ⊥) → (b ≡ 0xFD → ⊥) → (b ≡ 0xF8 → ⊥) → (b ≡ 0xFA → ⊥) → (b ≡ 0xFB → ⊥) → (b ≡ 0xFC → ⊥) → (b ≡ 0xFE → ⊥) → b ≡ 0xFF
+    last : 0xF8 ≤ b → (b ≡ 0xF9 → ⊥) → (b ≡ 0xFD → ⊥)
+        → (b ≡ 0xF8 → ⊥) → (b ≡ 0xFA → ⊥) → (b ≡ 0xFB → ⊥) → (b ≡ 0xFC → ⊥) → (b ≡ 0xFE → ⊥) → b ≡ 0xFF
     last l p q n8 nA nB nC nE = four (three (two (one l n8 p) nA nB) nC q) nE
 
     go : 0xF8 ≤ b → (b ≡ 0xF9 → ⊥) → (b ≡ 0xFD → ⊥) → Told (realtime_report (realtime_of b)) n (numbers n 4 b 0 0)

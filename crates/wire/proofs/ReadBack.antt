@@ -32,32 +32,32 @@ pub kind : (k c : ℕ) → c < 16 → (k * 16 + c) / 16 ≡ k
 kind k c h = omega arith
 
 -- seven bits of a small number are the number
-seven : (a : ℕ) → a ≤ 127 → a % 128 % 128 ≡ a
-seven a h = omega arith
+kept_small : (a : ℕ) → a ≤ 127 → a % 128 % 128 ≡ a
+kept_small a h = omega arith
 
 -- channel messages: in-range message, channel below 16
 pub channel_reads_back : (c : ℕ) (m : ChannelMessage) → c < 16 → message_in_range m ≡ true
     → channel_message (status_nibble m + c) (get_or (data_bytes m) 0 0) (get_or (data_bytes m) 1 0) ≡ Some m
-channel_reads_back c (m.NoteOff a b) h r = let d = both_small a b r in rw (kind 0x8 c h) (ap₂ (λ (x y : ℕ). Some (m.NoteOff x y)) (seven a d.0) (seven b d.1))
-channel_reads_back c (m.NoteOn a b) h r = let d = both_small a b r in rw (kind 0x9 c h) (ap₂ (λ (x y : ℕ). Some (m.NoteOn x y)) (seven a d.0) (seven b d.1))
+channel_reads_back c (m.NoteOff a b) h r = let d = both_small a b r in rw (kind 0x8 c h) (ap₂ (λ (x y : ℕ). Some (m.NoteOff x y)) (kept_small a d.0) (kept_small b d.1))
+channel_reads_back c (m.NoteOn a b) h r = let d = both_small a b r in rw (kind 0x9 c h) (ap₂ (λ (x y : ℕ). Some (m.NoteOn x y)) (kept_small a d.0) (kept_small b d.1))
 channel_reads_back c (m.PolyKeyPressure a b) h r = let d = both_small a b r in rw (kind 0xA c h)
-    (ap₂ (λ (x y : ℕ). Some (m.PolyKeyPressure x y)) (seven a d.0) (seven b d.1))
-channel_reads_back c (m.ControlChange a b) h r = let d = both_small a b r in rw (kind 0xB c h) (ap₂ (λ (x y : ℕ). Some (m.ControlChange x y)) (seven a d.0) (seven b d.1))
-channel_reads_back c (m.ProgramChange a) h r = rw (kind 0xC c h) (ap (λ (x : ℕ). Some (m.ProgramChange x)) (seven a (leb-true a 127 r)))
-channel_reads_back c (m.ChannelPressure a) h r = rw (kind 0xD c h) (ap (λ (x : ℕ). Some (m.ChannelPressure x)) (seven a (leb-true a 127 r)))
+    (ap₂ (λ (x y : ℕ). Some (m.PolyKeyPressure x y)) (kept_small a d.0) (kept_small b d.1))
+channel_reads_back c (m.ControlChange a b) h r = let d = both_small a b r in rw (kind 0xB c h) (ap₂ (λ (x y : ℕ). Some (m.ControlChange x y)) (kept_small a d.0) (kept_small b d.1))
+channel_reads_back c (m.ProgramChange a) h r = rw (kind 0xC c h) (ap (λ (x : ℕ). Some (m.ProgramChange x)) (kept_small a (leb-true a 127 r)))
+channel_reads_back c (m.ChannelPressure a) h r = rw (kind 0xD c h) (ap (λ (x : ℕ). Some (m.ChannelPressure x)) (kept_small a (leb-true a 127 r)))
 channel_reads_back c (m.PitchBend a) h r =
     let small : a ≤ 16383 = leb-true a 16383 r in
     rw (kind 0xE c h) (ap (λ (x : ℕ). Some (m.PitchBend x)) (omega arith))
 
 -- the status byte takes just the data bytes that are written
-pub channel_data_length_lem : (c : ℕ) (m : ChannelMessage) → c < 16 → data_length (status_nibble m + c) ≡ length (data_bytes m)
-channel_data_length_lem c (m.NoteOff a b) h = two_low (0x80 + c) (omega arith) (omega arith)
-channel_data_length_lem c (m.NoteOn a b) h = two_low (0x90 + c) (omega arith) (omega arith)
-channel_data_length_lem c (m.PolyKeyPressure a b) h = two_low (0xA0 + c) (omega arith) (omega arith)
-channel_data_length_lem c (m.ControlChange a b) h = two_low (0xB0 + c) (omega arith) (omega arith)
-channel_data_length_lem c (m.ProgramChange a) h = one_middle (0xC0 + c) (omega arith) (omega arith)
-channel_data_length_lem c (m.ChannelPressure a) h = one_middle (0xD0 + c) (omega arith) (omega arith)
-channel_data_length_lem c (m.PitchBend a) h = two_high (0xE0 + c) (omega arith) (omega arith)
+pub data_length_of_channel : (c : ℕ) (m : ChannelMessage) → c < 16 → data_length (status_nibble m + c) ≡ length (data_bytes m)
+data_length_of_channel c (m.NoteOff a b) h = two_low (0x80 + c) (omega arith) (omega arith)
+data_length_of_channel c (m.NoteOn a b) h = two_low (0x90 + c) (omega arith) (omega arith)
+data_length_of_channel c (m.PolyKeyPressure a b) h = two_low (0xA0 + c) (omega arith) (omega arith)
+data_length_of_channel c (m.ControlChange a b) h = two_low (0xB0 + c) (omega arith) (omega arith)
+data_length_of_channel c (m.ProgramChange a) h = one_middle (0xC0 + c) (omega arith) (omega arith)
+data_length_of_channel c (m.ChannelPressure a) h = one_middle (0xD0 + c) (omega arith) (omega arith)
+data_length_of_channel c (m.PitchBend a) h = two_high (0xE0 + c) (omega arith) (omega arith)
 
 -- system common messages in range
 pub common_reads_back : (m : SystemCommon) → common_in_range m ≡ true

@@ -1,6 +1,6 @@
 -- `run_of` meets its contract: the part that the reader's place names.
 use Rattle.refusal.specs.Outcome.{answered}
-use Rattle.frame_reader.proofs.RunPlace.{with_place_lem, run_within, read_starts, read_run_lem}
+use Rattle.frame_reader.proofs.RunPlace.{place_given, run_within, read_starts, run_read}
 use native.Mathlib.Omega.{arith}
 use mathlib.Core.Path.{ap, sym, ◌∙◌}
 use Rattle.frame_reader.proofs.run_of.Goals as goal
@@ -8,9 +8,9 @@ use Rattle.frame_reader.proofs.run_of.Goals as goal
 pub returns-in-Ok : goal.returns-in-Ok
 returns-in-Ok c = let b = c.args.bytes.now in
     let h = ap answered (sym c.in-Ok.is) ∙ c.read_located.ensures in
-    record { lies = rw (read_starts b c.in-Ok.read h); reads = read_run_lem b c.in-Ok.read h }
+    record { lies = rw (read_starts b c.in-Ok.read h); reads = run_read b c.in-Ok.read h }
 
 pub slice_bounds-result-end-in-Ok : goal.slice_bounds-result-end-in-Ok
 slice_bounds-result-end-in-Ok c = let b = c.args.bytes.now in
-    let p = with_place_lem b c.in-Ok.read (ap answered (sym c.in-Ok.is) ∙ c.read_located.ensures) in
+    let p = place_given b c.in-Ok.read (ap answered (sym c.in-Ok.is) ∙ c.read_located.ensures) in
     omega (arith, p.starts, p.long, run_within b c.in-Ok.read.frame p.found)

@@ -25,8 +25,8 @@ device_case n x false true below is_all e =
     (ap device_byte (sym same) ∙ sym (is_all refl), ap device_in_range (sym same))
 device_case n x false false below is_all e = absurd (given_not_refused x 5 (n ∷ []) e)
 
-pub device_in_range_lem : (n : ℕ) (x : DeviceId) → device_of n ≡ gives x → (device_byte x ≡ n) × (device_in_range x ≡ true)
-device_in_range_lem n x e = device_case n x (ltb n 16) (eqb n 0x7F) (λ h. h) (eqb-true n 0x7F) e
+pub read_device_in_range : (n : ℕ) (x : DeviceId) → device_of n ≡ gives x → (device_byte x ≡ n) × (device_in_range x ≡ true)
+read_device_in_range n x e = device_case n x (ltb n 16) (eqb n 0x7F) (λ h. h) (eqb-true n 0x7F) e
 
 -- a device in range is read back from its byte
 pub device_reads_back : (x : DeviceId) → device_in_range x ≡ true → device_of (device_byte x) ≡ gives x

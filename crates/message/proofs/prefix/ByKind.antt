@@ -80,14 +80,14 @@ leading [] h = absurd (true_is_not_false (sym h))
 leading (f ∷ fs) h = ap (λ (g : Field). g ∷ fs) (version_tagged f h)
 
 -- a dump's fields begin with the version
-pub version_leads_lem : (k : Command) (b : Bool) → carries_run k ≡ true → field_list k b ≡ y.version ∷ drop 1 (field_list k b)
+pub version_comes_first : (k : Command) (b : Bool) → carries_run k ≡ true → field_list k b ≡ y.version ∷ drop 1 (field_list k b)
 unfolding version_leads
-version_leads_lem k true h = leading (field_list k true) (rw h at (of_every (λ j. pick (carries_run j) (version_leads (field_list j true)) true) refl k))
-version_leads_lem k false h = leading (field_list k false) (rw h at (of_every (λ j. pick (carries_run j) (version_leads (field_list j false)) true) refl k))
+version_comes_first k true h = leading (field_list k true) (rw h at (of_every (λ j. pick (carries_run j) (version_leads (field_list j true)) true) refl k))
+version_comes_first k false h = leading (field_list k false) (rw h at (of_every (λ j. pick (carries_run j) (version_leads (field_list j false)) true) refl k))
 
 -- the version of a dump is its first byte
 pub version_first : (k : Command) (b : Bool) (p : List ℕ) → carries_run k ≡ true → (fields_at k b p).version ≡ get_or p 0 0
-version_first k b p h = rw (version_leads_lem k b h)
+version_first k b p h = rw (version_comes_first k b h)
 
 -- a command's fields tested in wire order, and by kind
 abbrev in_order : Bool → List ℕ → Command → Outcome Fields

@@ -11,19 +11,19 @@ use Rattle.wire.specs.declared.system_common.CommonStatus.{CommonStatus}
 use Rattle.wire.specs.declared.system_common.CommonStatus.TheVariants as s
 use Rattle.wire.specs.SystemCommon.{common_status_byte, common, common_in_range, common_bytes}
 
-pub common_bytes_lem : (s : CommonStatus) (v : ℕ) → common_in_range (common s v) ≡ true
+pub masked_common_in_range : (s : CommonStatus) (v : ℕ) → common_in_range (common s v) ≡ true
     → take (1 + data_length (common_status_byte s)) (common_status_byte s ∷ v % 128 ∷ v / 128 % 128 ∷ []) ≡ common_bytes (common s v)
 unfolding data_length
-common_bytes_lem s.TimeCodeQuarterFrame v h =
+masked_common_in_range s.TimeCodeQuarterFrame v h =
     let small : v ≤ 127 = leb-true v 127 h in
     ap (λ (x : ℕ). 0xF1 ∷ x ∷ []) (omega arith)
-common_bytes_lem s.SongPosition v h =
+masked_common_in_range s.SongPosition v h =
     let small : v ≤ 16383 = leb-true v 16383 h in
     ap (λ (x : ℕ). 0xF2 ∷ v % 128 ∷ x ∷ []) (omega arith)
-common_bytes_lem s.SongSelect v h =
+masked_common_in_range s.SongSelect v h =
     let small : v ≤ 127 = leb-true v 127 h in
     ap (λ (x : ℕ). 0xF3 ∷ x ∷ []) (omega arith)
-common_bytes_lem s.TuneRequest v h = refl
+masked_common_in_range s.TuneRequest v h = refl
 
 pub common_length : (s : CommonStatus) → data_length (common_status_byte s) ≤ 2
 unfolding data_length

@@ -5,7 +5,8 @@ use Rattle.decoder.proofs.Limit.{limit_is}
 use Rattle.stream.specs.quick.Bytes.{put_middle}
 use Rattle.stream.proofs.FrameSteps.{start_answers, held_answers, undefined_answers, tune_answers, end_answers, beyond_answers}
 use Rattle.stream.proofs.frame.ends.Goals as goal
-use Rattle.stream.proofs.frame.ends.Goals.{in_default-via-in-247+else-at-lt-MAX_SYSEX_LEN, in_default-via-in_default+then-byte-lt128, in_default-via-in_default+else-byte-lt128+else-byte-lt244+else-byte-lt246}
+use Rattle.stream.proofs.frame.ends.Goals.{in_default-via-in-247+else-at-lt-MAX_SYSEX_LEN, in_default-via-in_default+then-byte-lt128}
+use Rattle.stream.proofs.frame.ends.Goals.{in_default-via-in_default+else-byte-lt128+else-byte-lt244+else-byte-lt246}
 
 pub returns-then-byte-eq240 : goal.returns-then-byte-eq240
 returns-then-byte-eq240 c =
@@ -38,5 +39,14 @@ returns-in_default c =
     let a = c.args in
     let p = c.requires in
     beyond_answers a.state.now p.0 a.at a.store.now a.byte a.used _ _ _ p.2
-    (λ l h. elim c.in_default.branch [ in_default-via-in-247+else-at-lt-MAX_SYSEX_LEN w ↦ omega (arith, w.in-247.is) | in_default-via-in_default+then-byte-lt128 w ↦ omega arith | in_default-via-in_default+else-byte-lt128+else-byte-lt244+else-byte-lt246 w ↦ omega arith ])
-    (elim c.in_default.branch [ in_default-via-in-247+else-at-lt-MAX_SYSEX_LEN w ↦ omega (arith, limit_is, w.if-at-lt-MAX_SYSEX_LEN.false) | in_default-via-in_default+then-byte-lt128 w ↦ p.3 (omega arith) | in_default-via-in_default+else-byte-lt128+else-byte-lt244+else-byte-lt246 w ↦ absurd (omega arith) ]) c.too_long.ensures c.put_closed.ensures refl
+    (λ l h. elim c.in_default.branch [
+      | in_default-via-in-247+else-at-lt-MAX_SYSEX_LEN w ↦ omega (arith, w.in-247.is)
+      | in_default-via-in_default+then-byte-lt128 w ↦ omega arith
+      | in_default-via-in_default+else-byte-lt128+else-byte-lt244+else-byte-lt246 w ↦ omega arith
+    ])
+    (elim c.in_default.branch [
+      | in_default-via-in-247+else-at-lt-MAX_SYSEX_LEN w ↦ omega (arith, limit_is, w.if-at-lt-MAX_SYSEX_LEN.false)
+      | in_default-via-in_default+then-byte-lt128 w ↦ p.3 (omega arith)
+      | in_default-via-in_default+else-byte-lt128+else-byte-lt244+else-byte-lt246 w ↦ absurd (omega arith)
+    ])
+    c.too_long.ensures c.put_closed.ensures refl

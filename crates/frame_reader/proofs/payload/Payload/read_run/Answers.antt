@@ -77,9 +77,10 @@ returns-then-is_numbered c =
     let least : prefix_length a.self.command ≤ length p = omega (arith, e, c.if-found-prefix.false) in
     let is : accepted (raw_length_for a.self.command a.version.0) (length p - prefix_length a.self.command) ≡ false =
     rw (c.raw_len-raw_len.ensures, e) at (sym c.holds.ensures ∙ c.if-holds.false) in
+    let measured = eqb-false _ _ (sym (same_by_code a.self.command k.CalibrationDataDumpResponse) ∙ sym c.eq.ensures ∙ c.if-eq.false) in
+    let pattern = eqb-true _ _ (sym (same_by_code a.self.command k.UserPatternDumpResponse) ∙ sym c.eq-2.ensures ∙ c.if-eq-2.true) in
     c.check_small-then-is_numbered.ensures ∙ ap small_checked c.fields-then-is_numbered.ensures ∙ sym (fields_tested a.self.command true p c.requires)
-    ∙ sym (run_numbered a.self.command a.version.0 p least (eqb-false _ _ (sym (same_by_code a.self.command k.CalibrationDataDumpResponse) ∙ sym c.eq.ensures ∙ c.if-eq.false)) is (eqb-true _ _ (sym (same_by_code a.self.command k.UserPatternDumpResponse) ∙ sym c.eq-2.ensures ∙ c.if-eq-2.true))
-    (sym c.is_numbered.ensures ∙ c.if-is_numbered.true))
+    ∙ sym (run_numbered a.self.command a.version.0 p least measured is pattern (sym c.is_numbered.ensures ∙ c.if-is_numbered.true))
 
 pub returns : goal.returns
 returns c =
@@ -97,4 +98,5 @@ returns c =
       | else-eq-2-via-then-eq-2+else-is_numbered w ↦ rw (sym pattern ∙ sym c.eq-2.ensures ∙ w.if-eq-2.true, sym w.is_numbered.ensures ∙ w.if-is_numbered.false)
       | else-eq-2-via-else-eq-2 w ↦ rw (sym pattern ∙ sym c.eq-2.ensures ∙ w.if-eq-2.false)
     ] in
-    rw (c.wrong_length-2.ensures, e, raw_len.ensures) (run_refused a.self.command a.version.0 p least (eqb-false _ _ (sym (same_by_code a.self.command k.CalibrationDataDumpResponse) ∙ sym c.eq.ensures ∙ c.if-eq.false)) is none)
+    let measured = eqb-false _ _ (sym (same_by_code a.self.command k.CalibrationDataDumpResponse) ∙ sym c.eq.ensures ∙ c.if-eq.false) in
+    rw (c.wrong_length-2.ensures, e, raw_len.ensures) (run_refused a.self.command a.version.0 p least measured is none)

@@ -1,6 +1,6 @@
 -- `CommonStatus::encode_into` meets its contract: 21 first; then it hands the message's own bytes to `put`.
 use Rattle.refusal.proofs.Written.{went_on, same_bytes}
-use Rattle.wire.proofs.system_common.Bytes.{common_bytes_lem, common_length}
+use Rattle.wire.proofs.system_common.Bytes.{masked_common_in_range, common_length}
 use Rattle.wire.specs.SystemCommon.{common_bytes, common, common_in_range}
 use lib.ListN.{take}
 use lib.Seq.{length-take-le}
@@ -28,6 +28,6 @@ returns c =
     let p = c.put in
     let fits : common_in_range (common a.self a.value) ≡ true = sym c.carries.ensures ∙ c.if-not-carries.false in
     let same : take l.result (s.result ∷ a.value % 128 ∷ a.value / 128 % 128 ∷ []) ≡ common_bytes (common a.self a.value) =
-    rw (l.ensures, s.ensures) (common_bytes_lem a.self a.value fits) in
+    rw (l.ensures, s.ensures) (masked_common_in_range a.self a.value fits) in
     went_on _ 21 (a.value ∷ []) _ p.result a.out.now p.new.out fits
     (same_bytes _ _ p.result a.out.now p.new.out same p.ensures)
