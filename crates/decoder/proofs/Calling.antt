@@ -25,8 +25,8 @@ pub ready_walks : (d : Decoder) (store bytes : List ℕ) → limit ≤ length st
 ready_walks d store bytes room h = rw (le-leb limit (length store) room, h)
 
 -- the code's answers
-pub refuses : (o : Outcome Walked) (store : List ℕ) → o ≡ refused 20 [] → Feeds o (Err e.BadStore) store store
-refuses o store h = record { answers = rw h; leaves = rw h }
+pub feeds_refused : (o : Outcome Walked) (store : List ℕ) → o ≡ refused 20 [] → Feeds o (Err e.BadStore) store store
+feeds_refused o store h = record { answers = rw h; leaves = rw h }
 
 pub feeds : (o : Outcome Walked) (w : Walked) (fed : Fed) (store afterwards : List ℕ) → o ≡ gives w → Walks w fed afterwards
     → Feeds o (Ok fed) store afterwards

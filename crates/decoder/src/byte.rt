@@ -34,7 +34,7 @@ pub fn kept(status: u8) -> Option<u8>
 }
 
 // The message of a status byte and its data bytes. The three bytes stay three: a struct would be made of them and taken apart again.
-pub fn message(status: u8, first: u8, second: u8) -> Option<Report>
+pub fn message_report(status: u8, first: u8, second: u8) -> Option<Report>
     ensures { result ≡ message_report status first second }
 {
     match ChannelMessage::from_bytes(status, first, second) {
@@ -55,7 +55,7 @@ pub fn realtime(byte: u8) -> Option<Report>
 }
 
 // A step that breaks off no frame.
-pub fn told(state: Decoder, report: Option<Report>) -> Stepped
+pub fn uninterrupted(state: Decoder, report: Option<Report>) -> Stepped
     ensures { result ≡ record { state = state; interrupted = false; report = report } }
 {
     Stepped {
@@ -68,13 +68,13 @@ pub fn told(state: Decoder, report: Option<Report>) -> Stepped
 pub fn silent(state: Decoder) -> Stepped
     ensures { result ≡ silent state }
 {
-    told(state, None)
+    uninterrupted(state, None)
 }
 
 pub fn reporting(state: Decoder, report: Report) -> Stepped
     ensures { result ≡ reporting state report }
 {
-    told(state, Some(report))
+    uninterrupted(state, Some(report))
 }
 
 // A byte beyond the limit drops the frame.
@@ -85,7 +85,7 @@ pub fn too_long(state: Decoder) -> Stepped
 }
 
 // A status byte below F7 breaks off an open frame.
-pub fn status_byte(state: Decoder, next: Decoder, report: Option<Report>) -> Stepped
+pub fn interrupting(state: Decoder, next: Decoder, report: Option<Report>) -> Stepped
     ensures { result ≡ interrupting state next report }
 {
     Stepped {

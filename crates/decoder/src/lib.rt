@@ -235,15 +235,15 @@ impl Decoder {
             None => byte::silent(self),
             Some(status) => {
                 if self.have != 0 {
-                    return byte::told(
+                    return byte::uninterrupted(
                         Decoder::completed(status, self.data0, byte),
-                        byte::message(status, self.data0, byte),
+                        byte::message_report(status, self.data0, byte),
                     );
                 }
                 if wire::data_len(status) <= 1 {
-                    return byte::told(
+                    return byte::uninterrupted(
                         Decoder::completed(status, byte, self.data1),
-                        byte::message(status, byte, 0),
+                        byte::message_report(status, byte, 0),
                     );
                 }
                 byte::silent(self.waiting(status, byte))
@@ -269,15 +269,15 @@ impl Decoder {
                 store[at] = byte;
                 byte::silent(self.longer())
             }
-            Class::Held => byte::status_byte(self, self.holding(byte), None),
+            Class::Held => byte::interrupting(self, self.holding(byte), None),
             Class::Start => {
                 store[0] = byte;
-                byte::status_byte(self, self.opened(), None)
+                byte::interrupting(self, self.opened(), None)
             }
-            Class::Undefined => byte::status_byte(self, self.cleared(), None),
+            Class::Undefined => byte::interrupting(self, self.cleared(), None),
             Class::Tune => {
                 let report = Some(Report::Common(SystemCommon::TuneRequest));
-                byte::status_byte(self, self.cleared(), report)
+                byte::interrupting(self, self.cleared(), report)
             }
             Class::End => {
                 let next = self.cleared();
@@ -290,7 +290,7 @@ impl Decoder {
                 }
                 byte::too_long(self)
             }
-            Class::Realtime => byte::told(self, byte::realtime(byte)),
+            Class::Realtime => byte::uninterrupted(self, byte::realtime(byte)),
         }
     }
 

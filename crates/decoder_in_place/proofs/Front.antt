@@ -38,16 +38,16 @@ ok_gives (Ok x) t o e h = let same : x ≡ t = cc in ap (λ (y : Taken). gives y
 ok_gives (Err x) t o e h = absurd (none-some t e)
 
 -- what is used of bytes that are left
-pub record Uses (bytes : List ℕ) (t : Taken) : Type 0 where
+pub record UsesSome (bytes : List ℕ) (t : Taken) : Type 0 where
   pub some : 0 < length bytes
   pub one : 0 < t.used
   pub within : t.used ≤ length bytes
 
-pub uses : (d : Decoder) (store bytes : List ℕ) (t : Taken) → eqb (length bytes) 0 ≡ false → gives t ≡ taken_of (call d store bytes) → Uses bytes t
+pub uses : (d : Decoder) (store bytes : List ℕ) (t : Taken) → eqb (length bytes) 0 ≡ false → gives t ≡ taken_of (call d store bytes) → UsesSome bytes t
 uses d store bytes t left =
     let some : 0 < length bytes = omega (arith, eqb-false (length bytes) 0 left) in
     let w = walk d store bytes in
-    by_test (λ (o : Outcome Walked). gives t ≡ taken_of o → Uses bytes t) (ready d store) _ _
+    by_test (λ (o : Outcome Walked). gives t ≡ taken_of o → UsesSome bytes t) (ready d store) _ _
     (λ r e.
     let told : t ≡ record { used = w.fed.used; interrupted = w.fed.interrupted; report = w.fed.report } = cc in
     let count : t.used ≡ w.fed.used = ap (λ (x : Taken). x.used) told in

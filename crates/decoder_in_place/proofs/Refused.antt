@@ -11,7 +11,7 @@ use Rattle.decoder.specs.declared.Fed.{Fed}
 use Rattle.decoder.specs.Call.{Walked, Feeds}
 use Rattle.decoder_in_place.specs.InPlace.{FeedsInPlace}
 
-pub refuses : (o : Outcome Walked) (r : Result Fed Refusal) (e : Refusal) (d : Decoder) (before afterwards : List ℕ) → r ≡ Err e → Feeds o r before afterwards
+pub refused_in_place : (o : Outcome Walked) (r : Result Fed Refusal) (e : Refusal) (d : Decoder) (before afterwards : List ℕ) → r ≡ Err e → Feeds o r before afterwards
     → FeedsInPlace o (Err e) d d before afterwards
-refuses (gives w) r e d before afterwards h k = let z : ◌≡◌ {A = ℕ} 0 1 = cc in absurd (omega arith)
-refuses (refused n values) r e d before afterwards h k = record { answers = cc; keeps = refl; leaves = k.leaves }
+refused_in_place (gives w) r e d before afterwards h k = let z : ◌≡◌ {A = ℕ} 0 1 = cc in absurd (omega arith)
+refused_in_place (refused n values) r e d before afterwards h k = record { answers = cc; keeps = refl; leaves = k.leaves }

@@ -50,22 +50,22 @@ returns-else-at-ge-MAX_SYSEX_LEN c =
 pub returns-in-Held : goal.returns-in-Held
 returns-in-Held c = let a = c.args in
     step_by k.Held a.self a.store.now a.byte (sym c.class_of-class.ensures ∙ c.in-Held.is) _ _
-    (rw (c.status_byte.ensures, c.holding.ensures)) refl
+    (rw (c.interrupting.ensures, c.holding.ensures)) refl
 
 pub returns-in-Start : goal.returns-in-Start
 returns-in-Start c = let a = c.args in
     step_by k.Start a.self a.store.now a.byte (sym c.class_of-class.ensures ∙ c.in-Start.is) _ _
-    (rw (c.status_byte-in-Start.ensures, c.opened.ensures)) refl
+    (rw (c.interrupting-in-Start.ensures, c.opened.ensures)) refl
 
 pub returns-in-Undefined : goal.returns-in-Undefined
 returns-in-Undefined c = let a = c.args in
     step_by k.Undefined a.self a.store.now a.byte (sym c.class_of-class.ensures ∙ c.in-Undefined.is) _ _
-    (rw (c.status_byte-in-Undefined.ensures, c.cleared.ensures)) refl
+    (rw (c.interrupting-in-Undefined.ensures, c.cleared.ensures)) refl
 
 pub returns-in-Tune : goal.returns-in-Tune
 returns-in-Tune c = let a = c.args in
     step_by k.Tune a.self a.store.now a.byte (sym c.class_of-class.ensures ∙ c.in-Tune.is) _ _
-    (rw (c.status_byte-in-Tune.ensures, c.cleared-in-Tune.ensures)) refl
+    (rw (c.interrupting-in-Tune.ensures, c.cleared-in-Tune.ensures)) refl
 
 pub returns-else-at-lt-MAX_SYSEX_LEN : goal.returns-else-at-lt-MAX_SYSEX_LEN
 returns-else-at-lt-MAX_SYSEX_LEN c =
@@ -78,4 +78,4 @@ returns-else-at-lt-MAX_SYSEX_LEN c =
 pub returns-in-Realtime : goal.returns-in-Realtime
 returns-in-Realtime c = let a = c.args in
     step_by k.Realtime a.self a.store.now a.byte (sym c.class_of-class.ensures ∙ c.in-Realtime.is) _ _
-    (rw (c.told.ensures, c.realtime.ensures)) refl
+    (rw (c.uninterrupted.ensures, c.realtime.ensures)) refl

@@ -1,3 +1,4 @@
+-- The loop of `Decoder::walk` has done what the definition does: walked over the bytes used so far, it leaves the walk over the rest.
 use Rattle.decoder.proofs.Walking.{Walking}
 use Rattle.decoder.proofs.Decoder.walk.Given as goal
 

@@ -1,7 +1,7 @@
--- `message` meets its contract: a channel message if the bytes are one, else a common one.
+-- `message_report` meets its contract: a channel message if the bytes are one, else a common one.
 use Rattle.std.proofs.Common.{rules}
 use Rattle.decoder.specs.Step.{message_report}
-use Rattle.decoder.proofs.byte.message.Goals as goal
+use Rattle.decoder.proofs.byte.message_report.Goals as goal
 
 pub returns-in-Some : goal.returns-in-Some
 unfolding message_report
