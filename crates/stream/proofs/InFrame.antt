@@ -24,12 +24,12 @@ use Rattle.stream.specs.State.{encoded}
 use Rattle.stream.specs.Reports.{numbers_of}
 use Rattle.stream.specs.quick.Bytes.{is_realtime, open_state}
 use Rattle.stream.specs.quick.Going.{Numbered, Answers, MiddleFree, RunMoved}
-use Rattle.stream.proofs.Tests.{unnamed}
-use Rattle.stream.proofs.On.{On, on_ends, on_quiet, on_answers, on_run}
+use Rattle.stream.proofs.Tests.{f9_or_fd}
+use Rattle.stream.proofs.WalkedTo.{WalkedTo, on_ends, on_quiet, on_answers, on_run}
 
 -- F9 and FD do nothing, whatever the state
-pub unnamed_quiet : (d : Decoder) (store : List ℕ) (b : ℕ) → b < 256 → 0xF8 ≤ b → is_realtime b ≡ false → (silent d ≡ step d b) × (store ≡ stored d store b)
-unnamed_quiet d store b small l f = step_by k.Realtime d store b (class_is b k.Realtime l) (silent d) store (⊎_elim (λ e. rw e) (λ e. rw e) (unnamed b l small f)) refl
+pub f9_and_fd_quiet : (d : Decoder) (store : List ℕ) (b : ℕ) → b < 256 → 0xF8 ≤ b → is_realtime b ≡ false → (silent d ≡ step d b) × (store ≡ stored d store b)
+f9_and_fd_quiet d store b small l f = step_by k.Realtime d store b (class_is b k.Realtime l) (silent d) store (⊎_elim (λ e. rw e) (λ e. rw e) (f9_or_fd b l small f)) refl
 
 -- the loop's invariant: the state's bytes are as they were, and the walk has come to a frame of so many bytes in the store
 pub record InFrame (w : Walked) (state₀ store₀ bytes state store : List ℕ) (at used : ℕ) : Type 0 where
@@ -38,7 +38,7 @@ pub record InFrame (w : Walked) (state₀ store₀ bytes state store : List ℕ)
   pub long : length store ≡ length store₀
   pub room : limit ≤ length store
   pub fits : at ≤ limit
-  pub on : On w bytes (open_state at state₀) store used
+  pub on : WalkedTo w bytes (open_state at state₀) store used
 
 -- the place right behind a run of n data bytes that was moved
 module _ {w : Walked} {state₀ store₀ bytes state store : List ℕ} {at used : ℕ} (i : InFrame w state₀ store₀ bytes state store at used)
@@ -57,7 +57,7 @@ module _ {w : Walked} {state₀ store₀ bytes state store : List ℕ} {at used 
         long = same_length ∙ i.long;
         room = omega (arith, same_length, i.room);
         fits = run_fits;
-        on = subst (λ (l : List ℕ). On w bytes (open_state (at + n) state₀) l (used + n)) (sym kept-is)
+        on = subst (λ (l : List ℕ). WalkedTo w bytes (open_state (at + n) state₀) l (used + n)) (sym kept-is)
             (on_run w bytes at (get_or state₀ 12 0) (get_or state₀ 13 0) store used i.on i.fits i.room n n-is);
       }
 
@@ -96,7 +96,7 @@ module _ {w : Walked} {state₀ store₀ bytes state store : List ℕ} {at used 
 
     pub frame_goes_on : get_or bytes used 0 < 256 → 0xF8 ≤ get_or bytes used 0 → is_realtime (get_or bytes used 0) ≡ false → InFrame w state₀ store₀ bytes state store at (used + 1)
     frame_goes_on small l f =
-        let q = unnamed_quiet (open_state at state₀) store (get_or bytes used 0) small l f in
+        let q = f9_and_fd_quiet (open_state at state₀) store (get_or bytes used 0) small l f in
         record {
           free = i.free;
           same = i.same;

@@ -3,7 +3,7 @@ pub mod Tests
 pub mod Statuses
 pub mod Told
 pub mod Runs
-pub mod On
+pub mod WalkedTo
 pub mod Moving
 pub mod Stores
 pub mod Whole

@@ -45,14 +45,14 @@ pub record SaysClosed (m a z : ℕ) : Type 0 where
   pub number : waiting_number (closed_by m a z) ≡ m
 
 -- a closed state whose number is not 0 has a status that takes data
-pub record Force (m a z : ℕ) : Type 0 where
+pub record StatusInForce (m a z : ℕ) : Type 0 where
   pub is : closed_by m a z ≡ closed_of (Some (status_in m)) (m / 16_777_216) a z
   pub takes : 0 < data_length (status_in m)
   pub number : m ≡ 256 + 65_536 * status_in m + 16_777_216 * (m / 16_777_216)
   pub pending : 16_777_216 ≤ m → (m / 16_777_216 ≡ 1) × (a < 0x80) × (data_length (status_in m) ≡ 2)
 
-pub force : (m a z : ℕ) → SaysClosed m a z → (m ≡ 0 → ⊥) → Force m a z
-force m a z o h =
+pub status_in_force : (m a z : ℕ) → SaysClosed m a z → (m ≡ 0 → ⊥) → StatusInForce m a z
+status_in_force m a z o h =
     let n : eqb m 0 ≡ false = ne_eqb m 0 h in
     let waits : waits_soundly (Some (status_in m)) (m / 16_777_216) a ≡ true =
     ap (λ (t : Bool). waits_soundly (pick t None (Some (status_in m))) (m / 16_777_216) a) (sym n) ∙ (closed_part (closed_by m a z) o.fine refl).1 in
@@ -82,12 +82,12 @@ outside_stored l free m a o =
     none : m ≡ 0 → closed_by m a (get_or l 13 0) ≡ closed_of None 0 a (get_or l 13 0)
     none e = rw e refl
 
-    few : Force m a (get_or l 13 0) → m / 16_777_216 < 256
+    few : StatusInForce m a (get_or l 13 0) → m / 16_777_216 < 256
     few f = split (leb 16_777_216 m) (λ t. omega (arith, (f.pending (leb-true _ _ t)).0)) (λ t. omega (arith, leb-false 16_777_216 m t))
 
     some : (m ≡ 0 → ⊥) → put_waiting m a l ≡ encoded (closed_by m a (get_or l 13 0))
     some h =
-        let f = force m a (get_or l 13 0) o h in
+        let f = status_in_force m a (get_or l 13 0) o h in
         waiting_stored l free (Some (status_in m)) (m / 16_777_216) a m (omega arith) (few f) f.number ∙ sym (ap encoded f.is)
 
 -- a byte that reports nothing leads to other numbers
@@ -140,7 +140,7 @@ module _ (m a z b : ℕ) (store : List ℕ) (o : SaysClosed m a z) where
   -- the first of two data bytes waits for the second
   pub first_leads : b < 0x80 → Under m 2 → Leads m a z b (m + 16_777_216) b store
   first_leads low under =
-      let f = force m a z o (λ e. omega (arith, e, under.0)) in
+      let f = status_in_force m a z o (λ e. omega (arith, e, under.0)) in
       let two = under.1 in
       let free : m / 16_777_216 ≡ 0 = omega (arith, under.0) in
       let more : m + 16_777_216 ≡ 256 + 65_536 * status_in m + 16_777_216 * 1 = omega (arith, f.number, free) in
@@ -160,17 +160,17 @@ module _ (m a z b : ℕ) (store : List ℕ) (o : SaysClosed m a z) where
 pub status_stays : (m : ℕ) → status_in (m + 16_777_216) ≡ status_in m
 status_stays m = omega arith
 
-pub status_back : (m : ℕ) → 16_777_216 ≤ m → status_in (m - 16_777_216) ≡ status_in m
-status_back m h = omega arith
+pub status_without_pending : (m : ℕ) → 16_777_216 ≤ m → status_in (m - 16_777_216) ≡ status_in m
+status_without_pending m h = omega arith
 
 -- the number of a status, without what is pending
 module _ (m a z : ℕ) (o : SaysClosed m a z) (n : m ≡ 0 → ⊥) where
   pub takes_some : 0 < data_length (status_in m)
-  takes_some = (force m a z o n).takes
+  takes_some = (status_in_force m a z o n).takes
 
   module _ (h : m < 16_777_216) where
     alone : m ≡ held_number (status_in m)
-    alone = omega (arith, (force m a z o n).number, h)
+    alone = omega (arith, (status_in_force m a z o n).number, h)
 
     -- as the status v of the number is tested
     module _ (v : ℕ) (t : Bool) (is : v ≡ status_in m) (test : t ≡ eqb (data_length v) 1) where
@@ -196,8 +196,8 @@ module _ (l : List ℕ) (free : FrontFree l) (m a b n : ℕ) (out : SaysClosed m
       (q ∙ waiting_stored l free None 0 a 0 (omega arith) (omega arith) refl) refl
 
   module _ (low : b < 0x80) (h : m ≡ 0 → ⊥) where
-    f : Force m a (get_or l 13 0)
-    f = force m a (get_or l 13 0) out h
+    f : StatusInForce m a (get_or l 13 0)
+    f = status_in_force m a (get_or l 13 0) out h
 
     whole : (x z : ℕ) (w : Option Report) → record { state = completed (status_in m) x z; interrupted = false; report = w } ≡ collect
         (Some (status_in m)) (closed_of (Some (status_in m)) (m / 16_777_216) a (get_or l 13 0)) b

@@ -33,17 +33,17 @@ use Rattle.stream.specs.quick.Bytes.{is_realtime, waiting_number, put_middle, pu
 use Rattle.stream.specs.quick.Going.{Numbered, Answers, FrontFree, MiddleFree, Ready}
 use Rattle.stream.proofs.StateBytes.{fourteen}
 use Rattle.stream.proofs.Tests.{limit_small}
-use Rattle.stream.proofs.On.{On, on_begins, on_ends, on_stray, on_quiet, on_answers}
+use Rattle.stream.proofs.WalkedTo.{WalkedTo, on_begins, on_ends, on_stray, on_quiet, on_answers}
 use Rattle.stream.proofs.Stores.{closed_of, closed_by, waiting_cleared}
 use Rattle.stream.proofs.FrameSteps.{realtime_answers}
-use Rattle.stream.proofs.InFrame.{unnamed_quiet}
+use Rattle.stream.proofs.InFrame.{f9_and_fd_quiet}
 use Rattle.stream.proofs.OutsideSteps.{SaysClosed, status_known, outside_stored, Leads, start_opens, tune_ends}
 
 -- outside a frame: the numbers say the state that the walk has come to
 pub record Closed (w : Walked) (bytes state store : List ℕ) (m a i : ℕ) : Type 0 where
   pub free : FrontFree state
   pub numbers : SaysClosed m a (get_or state 13 0)
-  pub on : On w bytes (closed_by m a (get_or state 13 0)) store i
+  pub on : WalkedTo w bytes (closed_by m a (get_or state 13 0)) store i
 
 -- a run within so many bytes is part of the run
 pub part_of_run : (most n : ℕ) (l : List ℕ) → n ≡ data_run (take most l) → n ≤ data_run l
@@ -53,7 +53,7 @@ part_of_run most n l e = omega (arith, e, run_take l most)
 pub record Open (w : Walked) (bytes state store : List ℕ) (at i : ℕ) : Type 0 where
   pub free : MiddleFree state
   pub fits : at ≤ limit
-  pub on : On w bytes (open_state at state) store i
+  pub on : WalkedTo w bytes (open_state at state) store i
 
 -- the loop's invariant
 pub record Reached (w : Walked) (state₀ store₀ bytes state store : List ℕ) (at m a i : ℕ) : Type 0 where
@@ -93,7 +93,7 @@ closed_begins m a l store bytes is long fine m-is a-is closed =
     record {
       free = (long, ap (λ (x : List ℕ). put_word 0 x 0) e ∙ sym e);
       numbers = record { fine = ap sound same ∙ fine; number = ap waiting_number same ∙ sym m-is };
-      on = subst (λ (x : Decoder). On (walk d store bytes) bytes x store 0) (sym same) (on_begins d store bytes);
+      on = subst (λ (x : Decoder). WalkedTo (walk d store bytes) bytes x store 0) (sym same) (on_begins d store bytes);
     }
 
 -- an open sound state is what its length says
@@ -112,7 +112,7 @@ open_begins entry l store bytes is long fine entry-is opens =
     record {
       free = (long, ap (put_middle 0) e ∙ rw (← top) refl ∙ sym e);
       fits = omega (arith, entry-is, o.fits);
-      on = subst (λ (x : Decoder). On (walk d store bytes) bytes x store 0) (sym same) (on_begins d store bytes);
+      on = subst (λ (x : Decoder). WalkedTo (walk d store bytes) bytes x store 0) (sym same) (on_begins d store bytes);
     }
   where
     none : (v : Option ℕ) → no_status v ≡ true → v ≡ None
@@ -168,7 +168,7 @@ module _ {w : Walked} {state₀ store₀ bytes state store : List ℕ} {at m a i
     z : ℕ
     z = get_or state 13 0
 
-    still : (m' a' j : ℕ) → j ≤ length bytes → SaysClosed m' a' (get_or state 13 0) → On w bytes (closed_by m' a' (get_or state 13 0)) store j → Reached w
+    still : (m' a' j : ℕ) → j ≤ length bytes → SaysClosed m' a' (get_or state 13 0) → WalkedTo w bytes (closed_by m' a' (get_or state 13 0)) store j → Reached w
         state₀ store₀ bytes state store at m' a' j
     still m' a' j within numbers on =
         record {
@@ -217,9 +217,9 @@ module _ {w : Walked} {state₀ store₀ bytes state store : List ℕ} {at m a i
           still m' a' (i + 1) (omega arith) q.outside
           (on_quiet w bytes (closed_by m a (get_or state 13 0)) store i here.on more (closed_by m' a' (get_or state 13 0)) store q.steps q.keeps)
 
-      pub unnamed_on : get_or bytes i 0 < 256 → 0xF8 ≤ get_or bytes i 0 → is_realtime (get_or bytes i 0) ≡ false → Reached w state₀ store₀ bytes state store at m a (i + 1)
-      unnamed_on small l f =
-          let q = unnamed_quiet (closed_by m a (get_or state 13 0)) store (get_or bytes i 0) small l f in
+      pub f9_and_fd_on : get_or bytes i 0 < 256 → 0xF8 ≤ get_or bytes i 0 → is_realtime (get_or bytes i 0) ≡ false → Reached w state₀ store₀ bytes state store at m a (i + 1)
+      f9_and_fd_on small l f =
+          let q = f9_and_fd_quiet (closed_by m a (get_or state 13 0)) store (get_or bytes i 0) small l f in
           still m a (i + 1) (omega arith) here.numbers
           (on_quiet w bytes (closed_by m a (get_or state 13 0)) store i here.on more (closed_by m a (get_or state 13 0)) store q.0 q.1)
 
@@ -254,7 +254,7 @@ module _ {w : Walked} {state₀ store₀ bytes state store : List ℕ} {at m a i
             inside = λ _. record {
               free = (long ∙ r.long, ap (put_middle 0) p ∙ waiting_cleared state a r.long ∙ sym p);
               fits = omega (arith, room_for_three);
-              on = subst (λ (x : Decoder). On w bytes x store' (i + 1)) (opened_there state m a r.long ∙ ap (open_state 1) (sym p))
-                  (subst (λ (y : List ℕ). On w bytes (opened (closed_by m a (get_or state 13 0))) y (i + 1)) (sym q) on);
+              on = subst (λ (x : Decoder). WalkedTo w bytes x store' (i + 1)) (opened_there state m a r.long ∙ ap (open_state 1) (sym p))
+                  (subst (λ (y : List ℕ). WalkedTo w bytes (opened (closed_by m a (get_or state 13 0))) y (i + 1)) (sym q) on);
             };
           }

@@ -23,7 +23,7 @@ use Rattle.stream.specs.State.{is_state, state_of, state_length}
 use Rattle.stream.specs.Feed.{feed_call, refused_feed, StreamFed}
 use Rattle.stream.specs.quick.Bytes.{four_at, status_in, open_taken, waiting_taken, taken}
 use Rattle.stream.specs.quick.Going.{Numbered, Ready}
-use Rattle.stream.proofs.StateBytes.{written_back, status_back}
+use Rattle.stream.proofs.StateBytes.{written_back, status_decoded}
 use Rattle.stream.proofs.Tests.{limit_small}
 
 -- what a refused call and one that walks come to
@@ -155,7 +155,7 @@ module _ (l : List ℕ) (long : length l ≡ 14) (bytes : (i : ℕ) → get_or l
       let p = both (eqb (length l) 14) _ x.is in
       let q = both (leb (get_or l 0 0) 1) _ p.1 in
       let r = both (leb (get_or l 9 0) 1) _ q.1 in
-      let status = status_back (get_or l 9 0) (get_or l 10 0) (leb-true (get_or l 9 0) 1 r.0) r.1 in
+      let status = status_decoded (get_or l 9 0) (get_or l 10 0) (leb-true (get_or l 9 0) 1 r.0) r.1 in
       record {
         bytes = sym (written_back l x.is bytes);
         long = long;

@@ -50,29 +50,29 @@ take_no_more : (n : ℕ) (l : List ℕ) → length (take n l) ≤ n
 take_no_more n l = simp length-take (omega arith)
 
 -- an open frame of n bytes with these data bytes
-abbrev pub open_of : ℕ → ℕ → ℕ → Decoder
-open_of n a z = record { in_sysex = true; len = n; status = None; have = 0; data0 = a; data1 = z }
+abbrev pub open_frame : ℕ → ℕ → ℕ → Decoder
+open_frame n a z = record { in_sysex = true; len = n; status = None; have = 0; data0 = a; data1 = z }
 
 -- a data byte in an open frame that has room is stored behind the last
 frame_byte : (at a z : ℕ) (store : List ℕ) (b : ℕ) (bs : List ℕ) → at < limit → b < 0x80
-    → walk (open_of at a z) store (b ∷ bs) ≡ further 1 (walk (open_of (at + 1) a z) (set store at b) bs)
+    → walk (open_frame at a z) store (b ∷ bs) ≡ further 1 (walk (open_frame (at + 1) a z) (set store at b) bs)
 frame_byte at a z store b bs l low =
-    let d = open_of at a z in
+    let d = open_frame at a z in
     let eqs = data_fits d store b refl l in
     let steps = step_by k.Data d store b (class_is b k.Data low) (silent (longer d)) (set store at b) (sym eqs.0) (sym eqs.1) in
     quiet_byte d (longer d) store (set store at b) b bs steps.0 steps.1
 
 pub frame_run : (n at a z : ℕ) (store bytes : List ℕ) → n ≤ data_run bytes → at + n ≤ limit → limit ≤ length store
-    → walk (open_of at a z) store bytes ≡ further n (walk (open_of (at + n) a z) (window store at (take n bytes)) (drop n bytes))
+    → walk (open_frame at a z) store bytes ≡ further n (walk (open_frame (at + n) a z) (window store at (take n bytes)) (drop n bytes))
 frame_run zero at a z store bytes h l room =
-    sym (none_further _ ∙ ap₂ (λ (n : ℕ) (x : List ℕ). walk (open_of n a z) x bytes) (add-zero at) (window_none store at))
+    sym (none_further _ ∙ ap₂ (λ (n : ℕ) (x : List ℕ). walk (open_frame n a z) x bytes) (add-zero at) (window_none store at))
 frame_run (suc n) at a z store [] h l room = absurd (omega (arith, run_none, h))
 frame_run (suc n) at a z store (b ∷ bs) h l room =
     by_byte b bs
     (λ low e. frame_byte at a z store b bs (omega arith) low
     ∙ ap (further 1) (frame_run n (at + 1) a z (set store at b) bs (omega (arith, e, h)) (omega arith) (rw (length-set store at b) room))
     ∙ one_ahead n _
-    ∙ ap₂ (λ (m : ℕ) (x : List ℕ). further (suc n) (walk (open_of m a z) x (drop n bs))) (omega arith)
+    ∙ ap₂ (λ (m : ℕ) (x : List ℕ). further (suc n) (walk (open_frame m a z) x (drop n bs))) (omega arith)
     (stored_ahead store at b (take n bs) (omega (arith, take_no_more n bs))))
     (λ _ e. absurd (omega (arith, e, h)))
 

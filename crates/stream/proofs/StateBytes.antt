@@ -105,10 +105,10 @@ bit_back zero h = refl
 bit_back (suc zero) h = refl
 bit_back (suc (suc n)) h = absurd (omega arith)
 
-pub status_back : (g b : ℕ) → g ≤ 1 → (eqb g 1 || eqb b 0) ≡ true → (status_flag (status_of g b) ≡ g) × (status_byte (status_of g b) ≡ b)
-status_back zero b h e = (refl, sym (eqb-true b 0 e))
-status_back (suc zero) b h e = (refl, refl)
-status_back (suc (suc n)) b h e = absurd (omega arith)
+pub status_decoded : (g b : ℕ) → g ≤ 1 → (eqb g 1 || eqb b 0) ≡ true → (status_flag (status_of g b) ≡ g) × (status_byte (status_of g b) ≡ b)
+status_decoded zero b h e = (refl, sym (eqb-true b 0 e))
+status_decoded (suc zero) b h e = (refl, refl)
+status_decoded (suc (suc n)) b h e = absurd (omega arith)
 
 -- bytes that are a state's are written back as they were
 pub written_back : (l : List ℕ) → is_state l ≡ true → ((i : ℕ) → get_or l i 0 < 256) → encoded (state_of l) ≡ l
@@ -117,7 +117,7 @@ written_back l is bytes =
     let q = both (leb (get_or l 0 0) 1) _ p.1 in
     let r = both (leb (get_or l 9 0) 1) _ q.1 in
     let frame = bit_back (get_or l 0 0) (leb-true (get_or l 0 0) 1 q.0) in
-    let status = status_back (get_or l 9 0) (get_or l 10 0) (leb-true (get_or l 9 0) 1 r.0) r.1 in
+    let status = status_decoded (get_or l 9 0) (get_or l 10 0) (leb-true (get_or l 9 0) 1 r.0) r.1 in
     let whole : state_length l ≡ word (get_or l 1 0) (get_or l 2 0) (get_or l 3 0) (get_or l 4 0) (get_or l 5 0) (get_or l 6 0) (get_or l 7 0) (get_or l 8 0) = omega arith in
     rw (
       frame,

@@ -1,4 +1,5 @@
--- The frame limit's size, and what the test of a real-time byte means.
+-- A frame's length fits two bytes, because the limit does. A byte from F8 on that the test of real-time bytes turns down is F9 or FD, because
+-- the test leaves out these two alone.
 use mathlib.Core.Path.{◌≡◌, refl, sym, ◌∙◌}
 use mathlib.Core.Logic.{◌⊎◌, inl, inr}
 use mathlib.Core.Bool.{true, false}
@@ -19,7 +20,7 @@ pub realtime_high : (b : ℕ) → is_realtime b ≡ true → 0xF8 ≤ b
 realtime_high b t = leb-true 0xF8 b (both (leb 0xF8 b) _ t).0
 
 -- FD and F9 alone are not named
-pub unnamed : (b : ℕ) → 0xF8 ≤ b → b < 256 → is_realtime b ≡ false → (b ≡ 0xF9) ⊎ (b ≡ 0xFD)
-unnamed b l small f =
+pub f9_or_fd : (b : ℕ) → 0xF8 ≤ b → b < 256 → is_realtime b ≡ false → (b ≡ 0xF9) ⊎ (b ≡ 0xFD)
+f9_or_fd b l small f =
     split (eqb b 0xF9) (λ t. inl (eqb-true b 0xF9 t))
     (λ n. split (eqb b 0xFD) (λ t. inr (eqb-true b 0xFD t)) (λ m. absurd (true_is_not_false (sym (rw (le-leb 0xF8 b l, n, m) refl) ∙ f))))

@@ -14,15 +14,15 @@ use Rattle.stream.specs.State.{encoded}
 use Rattle.stream.specs.Reports.{numbers_of}
 use Rattle.stream.specs.quick.Bytes.{status_in, held_number, put_waiting}
 use Rattle.stream.specs.quick.Going.{Under, FrontFree}
-use Rattle.stream.proofs.Statuses.{held}
-use Rattle.stream.proofs.Told.{numbers, one_channel, one_common, two_plain, two_bend, two_common}
+use Rattle.stream.proofs.Statuses.{waits_for_data}
+use Rattle.stream.proofs.Told.{from_numbers, one_channel, one_common, two_plain, two_bend, two_common}
 use Rattle.stream.proofs.Stores.{closed_of, waiting_stored, both_stored}
 
-stays : (v : ℕ) → 0x80 ≤ v → v < 0xF0 → kept v ≡ Some v
-stays v p q = rw (le-leb 0x80 v p, lt-ltb v 0xF0 q)
+channel_status_stays : (v : ℕ) → 0x80 ≤ v → v < 0xF0 → kept v ≡ Some v
+channel_status_stays v p q = rw (le-leb 0x80 v p, lt-ltb v 0xF0 q)
 
-goes : (v : ℕ) → 0xF0 ≤ v → kept v ≡ None
-goes v p = rw (le-leb 0x80 v (omega arith), le-ltb v 0xF0 p)
+common_status_goes : (v : ℕ) → 0xF0 ≤ v → kept v ≡ None
+common_status_goes v p = rw (le-leb 0x80 v (omega arith), le-ltb v 0xF0 p)
 
 -- the status v that the number m says
 module _ (l : List ℕ) (free : FrontFree l) (m v n : ℕ) (is : v ≡ status_in m) (r : FedAnswer) (later : List ℕ) where
@@ -47,19 +47,19 @@ module _ (l : List ℕ) (free : FrontFree l) (m v n : ℕ) (is : v ≡ status_in
     takes = ap data_length is ∙ under.1
 
     low : 0x80 ≤ v
-    low = (held v k takes some).0
+    low = (waits_for_data v k takes some).0
 
   -- the only data byte of a message ends it
   module _ (a : ℕ) (under : Under m 1) (data_byte : a < 0x80) where
-    pub channel_of_one : v < 0xF0 → r ≡ numbers n 1 v a 0 → later ≡ put_waiting m a l → Ends a 0 (get_or l 13 0)
+    pub channel_of_one : v < 0xF0 → r ≡ from_numbers n 1 v a 0 → later ≡ put_waiting m a l → Ends a 0 (get_or l 13 0)
     channel_of_one h t q =
-        ends_so a 0 (get_or l 13 0) (Some v) (stays v (low 1 (omega arith) under) h)
+        ends_so a 0 (get_or l 13 0) (Some v) (channel_status_stays v (low 1 (omega arith) under) h)
         (t ∙ (one_channel v a n (takes 1 (omega arith) under) h data_byte).numbers)
         (q ∙ waiting_stored l free (Some v) 0 a m byte (omega arith) (number under.0))
 
-    pub common_of_one : 0xF0 ≤ v → r ≡ numbers n 3 v a 0 → later ≡ put_waiting 0 a l → Ends a 0 (get_or l 13 0)
+    pub common_of_one : 0xF0 ≤ v → r ≡ from_numbers n 3 v a 0 → later ≡ put_waiting 0 a l → Ends a 0 (get_or l 13 0)
     common_of_one h t q =
-        ends_so a 0 (get_or l 13 0) None (goes v h) (t ∙ (one_common v a n (takes 1 (omega arith) under) h data_byte).numbers)
+        ends_so a 0 (get_or l 13 0) None (common_status_goes v h) (t ∙ (one_common v a n (takes 1 (omega arith) under) h data_byte).numbers)
         (q ∙ waiting_stored l free None 0 a 0 (omega arith) (omega arith) refl)
 
   -- the second of two data bytes ends the message
@@ -67,17 +67,17 @@ module _ (l : List ℕ) (free : FrontFree l) (m v n : ℕ) (is : v ≡ status_in
     stored : v < 0xF0 → later ≡ put_waiting m a (set l 13 b) → later ≡ encoded (closed_of (Some v) 0 a b)
     stored h q = q ∙ both_stored l free (Some v) 0 a m byte (omega arith) (number under.0) b
 
-    pub plain_of_two : v < 0xC0 → r ≡ numbers n 1 v a b → later ≡ put_waiting m a (set l 13 b) → Ends a b b
+    pub plain_of_two : v < 0xC0 → r ≡ from_numbers n 1 v a b → later ≡ put_waiting m a (set l 13 b) → Ends a b b
     plain_of_two h t q =
-        ends_so a b b (Some v) (stays v (low 2 (omega arith) under) (omega arith))
+        ends_so a b b (Some v) (channel_status_stays v (low 2 (omega arith) under) (omega arith))
         (t ∙ (two_plain v a b n (takes 2 (omega arith) under) h data_byte data-byte₂).numbers) (stored (omega arith) q)
 
-    pub bend_of_two : 0xC0 ≤ v → v < 0xF0 → r ≡ numbers n 1 v (a + 128 * b) 0 → later ≡ put_waiting m a (set l 13 b) → Ends a b b
+    pub bend_of_two : 0xC0 ≤ v → v < 0xF0 → r ≡ from_numbers n 1 v (a + 128 * b) 0 → later ≡ put_waiting m a (set l 13 b) → Ends a b b
     bend_of_two p h t q =
-        ends_so a b b (Some v) (stays v (low 2 (omega arith) under) h)
+        ends_so a b b (Some v) (channel_status_stays v (low 2 (omega arith) under) h)
         (t ∙ (two_bend v a b n (takes 2 (omega arith) under) p h data_byte data-byte₂).numbers) (stored h q)
 
-    pub common_of_two : 0xF0 ≤ v → r ≡ numbers n 3 v (a + 128 * b) 0 → later ≡ put_waiting 0 a (set l 13 b) → Ends a b b
+    pub common_of_two : 0xF0 ≤ v → r ≡ from_numbers n 3 v (a + 128 * b) 0 → later ≡ put_waiting 0 a (set l 13 b) → Ends a b b
     common_of_two h t q =
-        ends_so a b b None (goes v h) (t ∙ (two_common v a b n (takes 2 (omega arith) under) h data_byte data-byte₂).numbers)
+        ends_so a b b None (common_status_goes v h) (t ∙ (two_common v a b n (takes 2 (omega arith) under) h data_byte data-byte₂).numbers)
         (q ∙ both_stored l free None 0 a 0 (omega arith) (omega arith) refl b)

@@ -1,11 +1,12 @@
 -- The decoder's reports in plain numbers: a kind, a status byte and two numbers.
-use Rattle.std.specs.Prelude.{Bool, ℕ, ◌+◌, None, Option, Some}
+use Rattle.std.specs.Prelude.{Bool, ℕ, ◌+◌, get_or, None, Option, Some}
 use Rattle.laws.specs.Choice.{flag}
 use Rattle.wire.specs.declared.channel_message.ChannelMessage.{ChannelMessage}
 use Rattle.wire.specs.declared.channel_message.ChannelMessage.TheVariants as m
 use Rattle.wire.specs.declared.system_common.SystemCommon.{SystemCommon}
 use Rattle.wire.specs.declared.system_common.SystemCommon.TheVariants as y
 use Rattle.wire.specs.ChannelMessage.{status_nibble}
+use Rattle.wire.specs.SystemCommon.{common_bytes}
 use Rattle.wire.specs.RealTime.{realtime_byte}
 use Rattle.decoder.specs.declared.Report.{Report}
 use Rattle.decoder.specs.declared.Report.TheVariants as r
@@ -20,18 +21,11 @@ report_kind (r.Realtime x) = 4
 report_kind r.SysExInterrupted = 18
 report_kind (r.SysExTooLong n) = 19
 
--- a system common message's status byte: F1, F2, F3 or F6
-abbrev pub common_status_of : SystemCommon → ℕ
-common_status_of (y.TimeCodeQuarterFrame v) = 0xF1
-common_status_of (y.SongPosition p) = 0xF2
-common_status_of (y.SongSelect v) = 0xF3
-common_status_of y.TuneRequest = 0xF6
-
--- a report's status byte, where it has one
+-- a report's status byte, where it has one; a system common message's is the first of its bytes
 abbrev pub report_status : Report → ℕ
 report_status (r.Channel c x) = status_nibble x + c.0
 report_status (r.SysEx n) = 0
-report_status (r.Common x) = common_status_of x
+report_status (r.Common x) = get_or (common_bytes x) 0 0
 report_status (r.Realtime x) = realtime_byte x
 report_status r.SysExInterrupted = 0
 report_status (r.SysExTooLong n) = 0

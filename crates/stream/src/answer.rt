@@ -13,7 +13,7 @@ use crate::{CHANNEL, COMMON, FedAnswer, NOTHING, REALTIME, SYSEX};
 use decoder::MAX_SYSEX_LEN;
 
 // An answer with one report, and no report 18 ahead of it. The count of used bytes is cast, since no From leads from usize to u64.
-fn told(used: usize, kind: u64, status: u64, first: u64, second: u64) -> FedAnswer
+fn from_numbers(used: usize, kind: u64, status: u64, first: u64, second: u64) -> FedAnswer
     ensures { result ≡ record { number = 0; used = used; interrupted = 0; kind = kind; status = status; first = first; second = second } }
 {
     FedAnswer {
@@ -31,7 +31,7 @@ fn told(used: usize, kind: u64, status: u64, first: u64, second: u64) -> FedAnsw
 pub fn quiet(used: usize) -> FedAnswer
     ensures { result ≡ numbers_of used false None }
 {
-    told(used, NOTHING, 0, 0, 0)
+    from_numbers(used, NOTHING, 0, 0, 0)
 }
 
 // Nothing used and nothing reported: 20.
@@ -56,43 +56,43 @@ pub fn realtime(byte: u8, used: usize) -> FedAnswer
     requires { is_realtime byte ≡ true }
     ensures { result ≡ numbers_of used false (realtime_report (realtime_of byte)) }
 {
-    told(used, REALTIME, u64::from(byte), 0, 0)
+    from_numbers(used, REALTIME, u64::from(byte), 0, 0)
 }
 
 // A tune request.
 pub fn tune(used: usize) -> FedAnswer
     ensures { result ≡ numbers_of used false (Some (r.Common y.TuneRequest)) }
 {
-    told(used, COMMON, 0xF6, 0, 0)
+    from_numbers(used, COMMON, 0xF6, 0, 0)
 }
 
 // A channel message, by its numbers.
 pub fn channel(status: u8, first: u64, second: u64, used: usize) -> FedAnswer
     ensures { result ≡ record { number = 0; used = used; interrupted = 0; kind = 1; status = status; first = first; second = second } }
 {
-    told(used, CHANNEL, u64::from(status), first, second)
+    from_numbers(used, CHANNEL, u64::from(status), first, second)
 }
 
 // A system common message with data.
-pub fn common(status: u8, value: u64, used: usize) -> FedAnswer
+pub fn system_common(status: u8, value: u64, used: usize) -> FedAnswer
     ensures { result ≡ record { number = 0; used = used; interrupted = 0; kind = 3; status = status; first = value; second = 0 } }
 {
-    told(used, COMMON, u64::from(status), value, 0)
+    from_numbers(used, COMMON, u64::from(status), value, 0)
 }
 
 // A frame of so many bytes: a cast, since no From leads from usize to u64.
 pub fn frame(len: usize, used: usize) -> FedAnswer
     ensures { result ≡ numbers_of used false (Some (r.SysEx len)) }
 {
-    told(used, SYSEX, 0, len as u64, 0)
+    from_numbers(used, SYSEX, 0, len as u64, 0)
 }
 
 // Report 19 for a frame beyond the limit, with the limit: a cast, since no From leads from usize to u64.
 #[tactic(auto, unfolding(decoder::specs::State::limit))]
-pub fn too_long(used: usize) -> FedAnswer
+pub fn frame_too_long(used: usize) -> FedAnswer
     ensures { result ≡ numbers_of used false (Some (r.SysExTooLong limit)) }
 {
-    told(used, 19, 0, MAX_SYSEX_LEN as u64, 0)
+    from_numbers(used, 19, 0, MAX_SYSEX_LEN as u64, 0)
 }
 
 // Report 18 and no other: an open frame was broken off.

@@ -80,12 +80,12 @@ fn ends(
             answer::frame(at + 1, used)
         }
         0x80..0xF4 => {
-            numbers::put_middle(numbers::held(byte), state);
+            numbers::put_middle(numbers::held_number(byte), state);
             answer::interrupted(used)
         }
         0xF4..0xF6 => answer::interrupted(used),
         0xF6 => answer::interrupted_by_tune(used),
-        _ => answer::too_long(used),
+        _ => answer::frame_too_long(used),
     }
 }
 

@@ -24,7 +24,7 @@ pub fn four_at(state: &[u8; STATE_LEN], at: usize) -> u32
 }
 
 // The number of a status with nothing pending.
-pub fn held(status: u8) -> u32
+pub fn held_number(status: u8) -> u32
     ensures { result ≡ held_number status }
 {
     0x100 + 0x1_0000 * u32::from(status)

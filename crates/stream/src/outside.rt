@@ -23,7 +23,7 @@ fn ends_one(held: u32, only: u8, used: usize, state: &mut [u8; STATE_LEN]) -> Fe
         return answer::channel(status, u64::from(only), 0, used);
     }
     numbers::put_waiting(0, only, state);
-    answer::common(status, u64::from(only), used)
+    answer::system_common(status, u64::from(only), used)
 }
 
 // The second data byte of a message: the two of a bend and of a position are one number. F2 does not stay in force.
@@ -43,7 +43,7 @@ fn ends_two(held: u32, first: u8, second: u8, used: usize, state: &mut [u8; STAT
         return answer::channel(status, value, 0, used);
     }
     numbers::put_waiting(0, first, state);
-    answer::common(status, value, used)
+    answer::system_common(status, value, used)
 }
 
 // A call on a state that it takes: in an open frame of so many bytes, or outside one (0) with what waits there and the first data byte. The two
@@ -84,7 +84,7 @@ pub fn walk(
                 middle += PENDING;
             }
         } else if byte < 0xF0 {
-            middle = numbers::held(byte);
+            middle = numbers::held_number(byte);
         } else if answer::is_realtime(byte) {
             numbers::put_waiting(middle, first, state);
             return answer::realtime(byte, i);
@@ -95,7 +95,7 @@ pub fn walk(
                     numbers::put_waiting(0, first, state);
                     at = 1;
                 }
-                0xF1..0xF4 => middle = numbers::held(byte),
+                0xF1..0xF4 => middle = numbers::held_number(byte),
                 0xF6 => {
                     numbers::put_waiting(0, first, state);
                     return answer::tune(i);

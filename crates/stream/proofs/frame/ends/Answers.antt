@@ -1,4 +1,5 @@
--- `ends` meets its contract, class by class.
+-- `ends` meets its contract, because in an open frame each class of byte below F8 has one effect: F0 opens another frame, F7 ends it within the
+-- limit, any other status byte breaks it off, and a data byte behind a run, or F7 beyond the limit, is too much for it.
 use mathlib.Core.Path.{refl, ap₂, ◌∙◌}
 use native.Mathlib.Omega.{arith}
 use Rattle.decoder.proofs.Limit.{limit_is}
@@ -17,7 +18,7 @@ pub returns-in-128-to-243 : goal.returns-in-128-to-243
 returns-in-128-to-243 c =
     let a = c.args in
     held_answers a.state.now c.requires.0 a.at a.store.now a.byte a.used _ _ _ (omega arith) (omega arith) c.if-byte-eq240.false c.interrupted-in-128-to-243.ensures
-    (c.put_middle.ensures ∙ ap₂ put_middle c.held.ensures c.put_closed.ensures) refl
+    (c.put_middle.ensures ∙ ap₂ put_middle c.held_number.ensures c.put_closed.ensures) refl
 
 pub returns-in-244-to-245 : goal.returns-in-244-to-245
 returns-in-244-to-245 c =
@@ -49,4 +50,4 @@ returns-in_default c =
       | in_default-via-in_default+then-byte-lt128 w ↦ p.3 (omega arith)
       | in_default-via-in_default+else-byte-lt128+else-byte-lt244+else-byte-lt246 w ↦ absurd (omega arith)
     ])
-    c.too_long.ensures c.put_closed.ensures refl
+    c.frame_too_long.ensures c.put_closed.ensures refl

@@ -1,3 +1,4 @@
+-- The loop of `moved_run` has copied the data bytes ahead of byte i.
 use Rattle.stream.specs.quick.Going.{Copied}
 use Rattle.stream.proofs.frame.moved_run.Given as goal
 

@@ -1,3 +1,4 @@
+-- The loop of `read` keeps the frame that the definition's walk has come to, of so many bytes in the store; at each turn fewer bytes are left.
 use Prim.Native.Nat.{◌-◌}
 use lib.ListN.{length, drop}
 use Rattle.decoder.specs.Call.{walk, further}

@@ -6,8 +6,8 @@ use lib.ListN.{length, get_or}
 use Rattle.decoder.specs.Call.{walk}
 use Rattle.decoder.proofs.Limit.{limit_is, room_for_three}
 use Rattle.stream.specs.State.{state_of}
-use Rattle.stream.proofs.OutsideSteps.{first_leads, held_leads, cleared_leads, status_stays, status_back, under_one, under_two, second_ends, only_ends}
-use Rattle.stream.proofs.Reached.{Reached, walk_begins, outside_ends, outside_answers, outside_realtime, outside_tune, leads_on, unnamed_on, stray_on, opens_on, part_of_run}
+use Rattle.stream.proofs.OutsideSteps.{first_leads, held_leads, cleared_leads, status_stays, status_without_pending, under_one, under_two, second_ends, only_ends}
+use Rattle.stream.proofs.Reached.{Reached, walk_begins, outside_ends, outside_answers, outside_realtime, outside_tune, leads_on, f9_and_fd_on, stray_on, opens_on, part_of_run}
 use Rattle.stream.proofs.outside.walk.Goals as goal
 
 pub loop-at-init : goal.loop-at-init
@@ -39,7 +39,7 @@ returns-then-middle-ge-PENDING c =
     let e = c.ends_two.ensures in
     outside_answers l.invariant c.loop-at-test.true more _ _ _ refl
     (second_ends l.state h.free l.middle l.first (get_or c.args.bytes.now l.i 0) (l.i + 1) h.numbers _ _ l.store (omega arith) c.if-middle-eq0.false c.if-middle-ge-PENDING.true _
-    (status_back l.middle c.if-middle-ge-PENDING.true) e.0 e.1)
+    (status_without_pending l.middle c.if-middle-ge-PENDING.true) e.0 e.1)
 
 pub returns-then-takes_one : goal.returns-then-takes_one
 returns-then-takes_one c =
@@ -92,7 +92,7 @@ loop-at-preserved-then-byte-lt240 c =
     let more : l.i < length a.bytes.now = omega (arith, l.invariant.within) in
     let h = l.invariant.outside c.loop-at-test.true in
     subst (λ (m : ℕ). Reached (walk (state_of a.state.now) a.store.now a.bytes.now) a.state.now a.store.now a.bytes.now l.state l.store l.at m l.first (l.i + 1))
-    (sym c.held-middle.ensures)
+    (sym c.held_number-middle.ensures)
     (leads_on l.invariant c.loop-at-test.true more _ _
     (held_leads l.middle l.first (get_or l.state 13 0) (get_or a.bytes.now l.i 0) l.store h.numbers (omega arith) (omega arith) (λ e. omega arith)))
 
@@ -103,7 +103,7 @@ loop-at-preserved-then-byte-lt244 c =
     let more : l.i < length a.bytes.now = omega (arith, l.invariant.within) in
     let h = l.invariant.outside c.loop-at-test.true in
     subst (λ (m : ℕ). Reached (walk (state_of a.state.now) a.store.now a.bytes.now) a.state.now a.store.now a.bytes.now l.state l.store l.at m l.first (l.i + 1))
-    (sym c.held-middle-in-241-to-243.ensures)
+    (sym c.held_number-middle-in-241-to-243.ensures)
     (leads_on l.invariant c.loop-at-test.true more _ _
     (held_leads l.middle l.first (get_or l.state 13 0) (get_or a.bytes.now l.i 0) l.store h.numbers (omega arith) (omega arith) (λ e. omega arith)))
 
@@ -141,7 +141,7 @@ pub loop-at-preserved-in_default-2 : goal.loop-at-preserved-in_default-2
 loop-at-preserved-in_default-2 c =
     let l = c.loop-at in
     let more : l.i < length c.args.bytes.now = omega (arith, l.invariant.within) in
-    unnamed_on l.invariant c.loop-at-test.true more (omega (arith, c.type_inv.bytes l.i)) (omega arith) (sym c.is_realtime.ensures ∙ c.if-is_realtime.false)
+    f9_and_fd_on l.invariant c.loop-at-test.true more (omega (arith, c.type_inv.bytes l.i)) (omega arith) (sym c.is_realtime.ensures ∙ c.if-is_realtime.false)
 
 pub loop-at-preserved : goal.loop-at-preserved
 loop-at-preserved c =

@@ -1,3 +1,5 @@
+-- The loop of `walk` keeps what the definition's walk has come to, said by the numbers outside a frame or by an open frame's length; at each turn fewer
+-- bytes are left.
 use Prim.Native.Nat.{◌-◌}
 use lib.ListN.{length}
 use Rattle.decoder.specs.Call.{walk}

@@ -21,14 +21,14 @@ use Rattle.stream.specs.declared.FedAnswer.{FedAnswer}
 use Rattle.stream.specs.State.{encoded}
 use Rattle.stream.specs.Reports.{numbers_of}
 use Rattle.stream.specs.quick.Going.{Numbered, Answers}
-use Rattle.stream.proofs.Runs.{more_further, none_further, quiet_byte, open_of, frame_run, stray_run}
+use Rattle.stream.proofs.Runs.{more_further, none_further, quiet_byte, open_frame, frame_run, stray_run}
 
 -- the whole walk w has come to state d and store behind the used bytes
-pub record On (w : Walked) (bytes : List ℕ) (d : Decoder) (store : List ℕ) (used : ℕ) : Type 0 where
+pub record WalkedTo (w : Walked) (bytes : List ℕ) (d : Decoder) (store : List ℕ) (used : ℕ) : Type 0 where
   pub within : used ≤ length bytes
   pub rest : w ≡ further used (walk d store (drop used bytes))
 
-pub on_begins : (d : Decoder) (store bytes : List ℕ) → On (walk d store bytes) bytes d store 0
+pub on_begins : (d : Decoder) (store bytes : List ℕ) → WalkedTo (walk d store bytes) bytes d store 0
 on_begins d store bytes = record { within = omega arith; rest = sym (none_further _) }
 
 -- two names of one walk have one answer by numbers
@@ -41,7 +41,7 @@ stops : (d : Decoder) (store : List ℕ) (b n : ℕ) (bs : List ℕ) (r : FedAns
 unfolding walk
 stops d store b n bs r later left a = rw a.some (record { told = a.told; kept = a.kept; store = a.leaves })
 
-module _ (w : Walked) (bytes : List ℕ) (d : Decoder) (store : List ℕ) (used : ℕ) (on : On w bytes d store used) where
+module _ (w : Walked) (bytes : List ℕ) (d : Decoder) (store : List ℕ) (used : ℕ) (on : WalkedTo w bytes d store used) where
   -- what another function answers of the rest is the call's answer
   pub on_other : (r : FedAnswer) (later left : List ℕ) → Numbered (further used (walk d store (drop used bytes))) r later left → Numbered w r later left
   on_other r later left n = numbered_as w _ r later left on.rest n
@@ -54,7 +54,7 @@ module _ (w : Walked) (bytes : List ℕ) (d : Decoder) (store : List ℕ) (used 
       (rw (drop_of_length-le bytes {i = used} (omega (arith, e)), add-zero used) (record { told = t; kept = k; store = q }))
 
   -- a run of data bytes with no status in force
-  pub on_stray : d.in_sysex ≡ false → d.status ≡ None → (n : ℕ) → n ≤ data_run (drop used bytes) → On w bytes d store (used + n)
+  pub on_stray : d.in_sysex ≡ false → d.status ≡ None → (n : ℕ) → n ≤ data_run (drop used bytes) → WalkedTo w bytes d store (used + n)
   on_stray p q n h =
       record {
         within = omega (arith, on.within, h, run_within (drop used bytes), length-drop used bytes);
@@ -70,7 +70,7 @@ module _ (w : Walked) (bytes : List ℕ) (d : Decoder) (store : List ℕ) (used 
     led = drop-cons bytes used 0 more
 
     -- a byte that reports nothing leads on by one
-    pub on_quiet : (e : Decoder) (kept : List ℕ) → silent e ≡ step d byte → kept ≡ stored d store byte → On w bytes e kept (used + 1)
+    pub on_quiet : (e : Decoder) (kept : List ℕ) → silent e ≡ step d byte → kept ≡ stored d store byte → WalkedTo w bytes e kept (used + 1)
     on_quiet e kept p q =
         record {
           within = omega arith;
@@ -84,11 +84,11 @@ module _ (w : Walked) (bytes : List ℕ) (d : Decoder) (store : List ℕ) (used 
         on_other r later left (numbered_as _ _ r later left (ap (λ (l : List ℕ). further used (walk d store l)) led) (stops d store byte used _ r later left a))
 
 -- a run of data bytes in an open frame, as far as it has room
-pub on_run : (w : Walked) (bytes : List ℕ) (at a z : ℕ) (store : List ℕ) (used : ℕ) → On w bytes (open_of at a z) store used → at ≤ limit → limit ≤ length store
-    → (n : ℕ) → n ≡ min (limit - at) (data_run (drop used bytes)) → On w bytes (open_of (at + n) a z) (window store at (take n (drop used bytes))) (used + n)
+pub on_run : (w : Walked) (bytes : List ℕ) (at a z : ℕ) (store : List ℕ) (used : ℕ) → WalkedTo w bytes (open_frame at a z) store used → at ≤ limit → limit ≤ length store
+    → (n : ℕ) → n ≡ min (limit - at) (data_run (drop used bytes)) → WalkedTo w bytes (open_frame (at + n) a z) (window store at (take n (drop used bytes))) (used + n)
 on_run w bytes at a z store used on fits room n e =
     record {
       within = omega (arith, on.within, e, run_within (drop used bytes), length-drop used bytes);
       rest = on.rest ∙ ap (further used) (frame_run n at a z store (drop used bytes) (omega (arith, e)) (omega (arith, e, fits)) room) ∙ more_further used n _
-          ∙ ap (λ (l : List ℕ). further (used + n) (walk (open_of (at + n) a z) (window store at (take n (drop used bytes))) l)) (drop-drop n used bytes);
+          ∙ ap (λ (l : List ℕ). further (used + n) (walk (open_frame (at + n) a z) (window store at (take n (drop used bytes))) l)) (drop-drop n used bytes);
     }
