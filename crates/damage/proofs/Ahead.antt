@@ -35,15 +35,15 @@ next_data k.Realtime xs b = xs
 replaces : (past : List ℕ) (b : ℕ) → 0x80 ≤ b → b < 0xF8 → (last_status (b ∷ past) ≡ b) × (data_since (b ∷ past) ≡ [])
 replaces past b l h = (rw (le-ltb b 0x80 l, lt-ltb b 0xF8 h), rw (le-ltb b 0x80 l, lt-ltb b 0xF8 h))
 
-pub ahead : (c : Class) (past : List ℕ) (b : ℕ) → Range c b
+pub status_and_data_after : (c : Class) (past : List ℕ) (b : ℕ) → Range c b
     → (last_status (b ∷ past) ≡ next_status c (last_status past) b) × (data_since (b ∷ past) ≡ next_data c (data_since past) b)
-ahead k.Data past b h = (rw (lt-ltb b 0x80 h), rw (lt-ltb b 0x80 h))
-ahead k.Held past b h = replaces past b h.0 (omega arith)
-ahead k.Start past b h = replaces past b (omega arith) (omega arith)
-ahead k.Undefined past b h = replaces past b (omega arith) (omega arith)
-ahead k.Tune past b h = replaces past b (omega arith) (omega arith)
-ahead k.End past b h = replaces past b (omega arith) (omega arith)
-ahead k.Realtime past b h = (rw (le-ltb b 0x80 (omega arith), le-ltb b 0xF8 h), rw (le-ltb b 0x80 (omega arith), le-ltb b 0xF8 h))
+status_and_data_after k.Data past b h = (rw (lt-ltb b 0x80 h), rw (lt-ltb b 0x80 h))
+status_and_data_after k.Held past b h = replaces past b h.0 (omega arith)
+status_and_data_after k.Start past b h = replaces past b (omega arith) (omega arith)
+status_and_data_after k.Undefined past b h = replaces past b (omega arith) (omega arith)
+status_and_data_after k.Tune past b h = replaces past b (omega arith) (omega arith)
+status_and_data_after k.End past b h = replaces past b (omega arith) (omega arith)
+status_and_data_after k.Realtime past b h = (rw (le-ltb b 0x80 (omega arith), le-ltb b 0xF8 h), rw (le-ltb b 0x80 (omega arith), le-ltb b 0xF8 h))
 
 -- history of bytes one behind another
 pub meaning_append : (past xs ys : List ℕ) → meaning past (xs ++ ys) ≡ meaning past xs ++ meaning (past_after past xs) ys

@@ -17,7 +17,7 @@ use Rattle.damage.specs.Caller.{Call, CallLog, bytes_used, in_front, Made, none,
 use Rattle.damage.specs.Condition3.{Condition3}
 use Rattle.damage.specs.Promises.{Promises}
 use Rattle.damage.specs.Calls.{fed_count, fed_reports, fed_state, by_value, log_of, singly}
-use Rattle.damage.proofs.Hearing.{Answers, made_exists}
+use Rattle.damage.proofs.Hearing.{AlwaysAnswers, made_exists}
 use Rattle.damage.proofs.Thin.{IsCall, Thin, thin_singly, thin_promises}
 use Rattle.refusal.specs.declared.Refusal.{Refusal}
 
@@ -50,7 +50,7 @@ pub condition_3_by_value : Condition3 by_value fresh
 condition_3_by_value = (promises_by_value fresh).condition_3
 
 -- some answer meets the contract, and so the calls can be made
-answers : Answers by_value
+answers : AlwaysAnswers by_value
 answers d store bytes =
     split (ready d store) (λ t. (Ok (walk d store bytes).fed, _, _, (record { answers = rw t; leaves = refl }, refl)))
     (λ t. (Err e.BadStore, _, _, (record { answers = rw t; leaves = refl }, refl)))

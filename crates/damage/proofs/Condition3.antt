@@ -21,7 +21,7 @@ use Rattle.damage.specs.Damage.{before_run, after_run, arrives, from_first, unti
 use Rattle.damage.specs.Caller.{Caller, Exactly}
 use Rattle.damage.specs.Meaning.{CallsMean, causes, Condition3Fixed}
 use Rattle.damage.specs.Condition3.{Condition3}
-use Rattle.damage.proofs.Ahead.{next_status, next_data, ahead, meaning_append, meaning_take}
+use Rattle.damage.proofs.Ahead.{next_status, next_data, status_and_data_after, meaning_append, meaning_take}
 use Rattle.damage.proofs.MessagesRead.{Reads, messages_read}
 use Rattle.damage.proofs.Woven.{woven, sent_behind, Begins, begins, whole_behind, begins_with_status}
 
@@ -69,7 +69,7 @@ begun_read t ts us low high r w past =
     let v = last_status past in
     let xs = data_since past in
     let lead = led_by c v xs b (range_of b) low high in
-    let same = ahead c past b (range_of b) in
+    let same = status_and_data_after c past b (range_of b) in
     ap₂ (λ (x : List Reported) (rest : List (List Reported)). x ∷ rest)
     (lead.0 ∙ ap (λ (x : List Reported). interruption (is_open v xs) ++ x) r.0 ∙ interruption_leads (is_open v xs) t.intact)
     (woven w (b ∷ past) (rw (same.0 ∙ lead.1, same.1 ∙ lead.2) r.1))

@@ -17,7 +17,7 @@ use Rattle.damage.specs.Caller.{Call, CallLog, Made, Exactly}
 use Rattle.damage.specs.Condition3.{Condition3}
 use Rattle.damage.specs.Promises.{Promises}
 use Rattle.damage.specs.Calls.{fed_count, fed_reports, fed_state, singly}
-use Rattle.damage.proofs.Hearing.{Answers, made_exists}
+use Rattle.damage.proofs.Hearing.{AlwaysAnswers, made_exists}
 use Rattle.damage.proofs.Thin.{IsCall, Thin, thin_singly, thin_promises}
 use Rattle.damage.specs.InPlaceCalls.{taken_count, taken_reports, in_place}
 use Rattle.refusal.specs.declared.Refusal.{Refusal}
@@ -66,7 +66,7 @@ pub condition_3_in_place : Condition3 in_place fresh
 condition_3_in_place = (promises_in_place fresh).condition_3
 
 -- some answer meets the contract, and so the calls can be made
-answers : Answers in_place
+answers : AlwaysAnswers in_place
 answers d store bytes =
     let w = walk d store bytes in
     split (ready d store)

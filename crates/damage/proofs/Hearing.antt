@@ -68,12 +68,12 @@ calls_hear c x (lent {other} {others} {short} {cs} {state} {store} {bytes} {log}
 calls_hear c x (meanwhile {cs} {state} {store} next left done rest) past held = calls_hear c x rest past (x.others past state store next left held done)
 
 -- every call has an answer that meets its contract
-abbrev pub Answers : Caller → Type 0
-Answers c = (state : c.State) (store : c.Store) (bytes : List ℕ)
+abbrev pub AlwaysAnswers : Caller → Type 0
+AlwaysAnswers c = (state : c.State) (store : c.Store) (bytes : List ℕ)
     → (answer : c.Answer) × (next : c.State) × (left : c.Store) × c.Contract state store bytes answer next left
 
 -- lists of calls exist: where every call has an answer, every list can be made, from whatever state and over whatever store and bytes
-pub made_exists : (c : Caller) → Answers c → (cs : List (Call c)) (state : c.State) (store : c.Store) (bytes : List ℕ) → (log : CallLog) × Made c cs state store bytes log
+pub made_exists : (c : Caller) → AlwaysAnswers c → (cs : List (Call c)) (state : c.State) (store : c.Store) (bytes : List ℕ) → (log : CallLog) × Made c cs state store bytes log
 made_exists c x [] state store bytes = (record { answers = []; reports = [] }, none)
 made_exists c x (give n ∷ cs) state store bytes =
     let a = x state store (take n bytes) in

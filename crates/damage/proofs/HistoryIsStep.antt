@@ -31,8 +31,8 @@ use Rattle.damage.specs.Open.{past_after, is_open, last_status, data_since, open
 use Rattle.damage.specs.Reported.{Reported, heard_realtime}
 use Rattle.damage.specs.History.{interruption, heard_data, heard_in, heard, meaning}
 use Rattle.damage.specs.Calls.{singly, state_singly, store_singly}
-use Rattle.damage.proofs.Ahead.{next_status, next_data, ahead}
-use Rattle.damage.proofs.Matches.{held, pending, Matches, nothing_pending, data_next}
+use Rattle.damage.proofs.Ahead.{next_status, next_data, status_and_data_after}
+use Rattle.damage.proofs.Matches.{status_held, pending, Matches, nothing_pending, data_next}
 use Rattle.decoder.specs.declared.Report.{Report}
 use Rattle.wire.specs.declared.real_time.Realtime.{Realtime}
 
@@ -41,13 +41,13 @@ abbrev pub reports_in : Stepped → List ℕ → List Reported
 reports_in x store = told_all store (report_list x.interrupted x.report)
 
 -- what a step has to be: it reports what history says, and its state holds what the bytes ahead then say
-abbrev Good : Class → ℕ → List ℕ → ℕ → Stepped → List ℕ → Type 0
-Good c v xs b x store = (reports_in x store ≡ heard_in c v xs b) × Matches (next_status c v b) (next_data c xs b) x.state store
+abbrev StepsAsHeard : Class → ℕ → List ℕ → ℕ → Stepped → List ℕ → Type 0
+StepsAsHeard c v xs b x store = (reports_in x store ≡ heard_in c v xs b) × Matches (next_status c v b) (next_data c xs b) x.state store
 
 good_by : (c : Class) (v : ℕ) (xs : List ℕ) (b : ℕ) (x z : Stepped) (store kept : List ℕ) → x ≡ z → store ≡ kept
-    → Good c v xs b z kept → Good c v xs b x store
+    → StepsAsHeard c v xs b z kept → StepsAsHeard c v xs b x store
 good_by c v xs b x z store kept p q g =
-    subst (λ (u : Stepped). Good c v xs b u store) (sym p) (subst (λ (n : List ℕ). Good c v xs b z n) (sym q) g)
+    subst (λ (u : Stepped). StepsAsHeard c v xs b u store) (sym p) (subst (λ (n : List ℕ). StepsAsHeard c v xs b z n) (sym q) g)
 
 -- a frame that is open began with F0 and has room
 open_is : (v : ℕ) (xs : List ℕ) → is_open v xs ≡ true → (v ≡ 0xF0) × (length xs < limit)
@@ -63,7 +63,7 @@ flag_is_open v xs d store g =
     split (is_open v xs) (λ e. (g.framed e).inside ∙ sym e) (λ e. (g.plain e).outside ∙ sym e)
 
 -- a cleared state is what a status byte leaves that is not F0 and takes no data
-closed_at : (v : ℕ) (xs : List ℕ) (d : Decoder) (store : List ℕ) → is_open v xs ≡ false → held v xs ≡ None → pending v xs ≡ 0 → limit ≤ length store
+closed_at : (v : ℕ) (xs : List ℕ) (d : Decoder) (store : List ℕ) → is_open v xs ≡ false → status_held v xs ≡ None → pending v xs ≡ 0 → limit ≤ length store
     → Matches v xs (cleared d) store
 closed_at v xs d store n h p room =
     record {
@@ -85,19 +85,19 @@ no_more : (t : Bool) → interruption t ++ [] ≡ interruption t
 no_more true = refl
 no_more false = refl
 
-realtime_told : (store : List ℕ) (x : Option Realtime) → told_all store (own_report (realtime_report x)) ≡ heard_realtime x
-realtime_told store (Some x) = refl
-realtime_told store None = refl
+realtime_report_heard : (store : List ℕ) (x : Option Realtime) → told_all store (own_report (realtime_report x)) ≡ heard_realtime x
+realtime_report_heard store (Some x) = refl
+realtime_report_heard store None = refl
 
 -- a dropped frame holds no status and no data
-start_holds_none : (xs : List ℕ) → (held 0xF0 xs ≡ None) × (pending 0xF0 xs ≡ 0)
+start_holds_none : (xs : List ℕ) → (status_held 0xF0 xs ≡ None) × (pending 0xF0 xs ≡ 0)
 start_holds_none xs = (rw (none_of_start, le-ltb (length xs) 0 (omega arith)), rw (none_of_start, le-ltb (length xs) 0 (omega arith)))
 
 start_silent : (xs : List ℕ) (b : ℕ) → heard_data 0xF0 xs b ≡ []
 start_silent xs b = rw (none_of_start, ne_eqb (length xs + 1) 0 (λ q. omega arith))
 
 -- what a byte that waits for data leaves
-held_first : (b : ℕ) → Range k.Held b → held b [] ≡ Some b
+held_first : (b : ℕ) → Range k.Held b → status_held b [] ≡ Some b
 held_first b h = split (is_channel_status b) (λ c. rw c) (λ c. rw (c, lt-ltb 0 (data_length b) (held_takes_data b h)))
 
 module _ (v : ℕ) (xs : List ℕ) (d : Decoder) (store : List ℕ) (g : Matches v xs d store) (b : ℕ) where
@@ -121,7 +121,7 @@ module _ (v : ℕ) (xs : List ℕ) (d : Decoder) (store : List ℕ) (g : Matches
       rw add-one (take-suc-set store d.len b inside ∙ ap (λ (n : List ℕ). n ++ (b ∷ [])) (g.framed e).front)
 
   -- a data byte that the limit has room for joins the open frame
-  data_in : is_open v xs ≡ true → d.len < limit → Good k.Data v xs b (silent (longer d)) (set store d.len b)
+  data_in : is_open v xs ≡ true → d.len < limit → StepsAsHeard k.Data v xs b (silent (longer d)) (set store d.len b)
   data_in e l =
       let f = g.framed e in
       let o = open_is v xs e in
@@ -136,18 +136,18 @@ module _ (v : ℕ) (xs : List ℕ) (d : Decoder) (store : List ℕ) (g : Matches
       )
 
   -- a data byte beyond the limit drops the open frame with 19
-  data_beyond : is_open v xs ≡ true → limit ≤ d.len → Good k.Data v xs b (too_long d) store
+  data_beyond : is_open v xs ≡ true → limit ≤ d.len → StepsAsHeard k.Data v xs b (too_long d) store
   data_beyond e l =
       let o = open_is v xs e in
       let size : d.len ≡ suc (length xs) = (g.framed e).size in
       let none = start_holds_none (xs ++ (b ∷ [])) in (
         sym (rw (eq-eqb v 0xF0 o.0, eq-eqb (length xs + 1) limit (omega arith))),
         closed_at v (xs ++ (b ∷ [])) d store (rw (eq-eqb v 0xF0 o.0, more, le-ltb (length xs + 1) limit (omega arith)))
-            (ap (λ n. held n (xs ++ (b ∷ []))) o.0 ∙ none.0) (ap (λ n. pending n (xs ++ (b ∷ []))) o.0 ∙ none.1) g.room,
+            (ap (λ n. status_held n (xs ++ (b ∷ []))) o.0 ∙ none.0) (ap (λ n. pending n (xs ++ (b ∷ []))) o.0 ∙ none.1) g.room,
       )
 
   -- a data byte where no frame is open
-  data_outside : is_open v xs ≡ false → Good k.Data v xs b (collect d.status d b) store
+  data_outside : is_open v xs ≡ false → StepsAsHeard k.Data v xs b (collect d.status d b) store
   data_outside e =
       let n = data_next v xs d b store (g.plain e) in (
         n.0 ∙ split (eqb v 0xF0) dropped (λ q. rw q),
@@ -169,14 +169,14 @@ module _ (v : ℕ) (xs : List ℕ) (d : Decoder) (store : List ℕ) (g : Matches
           let l = beyond o.0 in
           omega (arith, more, o.1)
 
-  good : (c : Class) → Range c b → Good c v xs b (step_in c d b) (stored_in c d store b)
-  good k.Data h =
+  steps_as_heard : (c : Class) → Range c b → StepsAsHeard c v xs b (step_in c d b) (stored_in c d store b)
+  steps_as_heard k.Data h =
       split (is_open v xs)
       (λ e. split (ltb d.len limit)
       (λ l. let eqs = data_fits d store b (g.framed e).inside (ltb-true _ _ l) in good_by k.Data v xs b _ _ _ _ eqs.0 eqs.1 (data_in e (ltb-true _ _ l)))
       (λ l. let eqs = data_over d store b (g.framed e).inside (ltb-false _ _ l) in good_by k.Data v xs b _ _ _ _ eqs.0 eqs.1 (data_beyond e (ltb-false _ _ l))))
       (λ e. let eqs = data_plain d store b (g.plain e).outside in good_by k.Data v xs b _ _ _ _ eqs.0 eqs.1 (data_outside e))
-  good k.Held h = (
+  steps_as_heard k.Held h = (
     unreported store,
     record {
       room = g.room;
@@ -187,7 +187,7 @@ module _ (v : ℕ) (xs : List ℕ) (d : Decoder) (store : List ℕ) (g : Matches
     where
       none : pending b [] ≡ 1 → ⊥
       none q = omega (arith, nothing_pending b)
-  good k.Start h =
+  steps_as_heard k.Start h =
       let some : 0 < length store = omega (arith, g.room, room_for_three) in
       let begun : is_open b [] ≡ true = rw (h, lt-ltb 0 limit (omega (arith, room_for_three))) in (
         unreported (set store 0 b),
@@ -197,9 +197,9 @@ module _ (v : ℕ) (xs : List ℕ) (d : Decoder) (store : List ℕ) (g : Matches
           plain = λ e. absurd (true_is_not_false (sym begun ∙ e));
         },
       )
-  good k.Undefined h = (unreported store, cleared_by b d store h.0 g.room)
-  good k.Tune h = (flagged store (Some (r.Common y.TuneRequest)), cleared_by b d store (omega arith) g.room)
-  good k.End h =
+  steps_as_heard k.Undefined h = (unreported store, cleared_by b d store h.0 g.room)
+  steps_as_heard k.Tune h = (flagged store (Some (r.Common y.TuneRequest)), cleared_by b d store (omega arith) g.room)
+  steps_as_heard k.End h =
       split (is_open v xs)
       (λ e. split (ltb d.len limit)
       (λ l. let eqs = end_fits d store b (g.framed e).inside (ltb-true _ _ l) in
@@ -217,7 +217,7 @@ module _ (v : ℕ) (xs : List ℕ) (d : Decoder) (store : List ℕ) (g : Matches
 
       over : is_open v xs ≡ true → limit ≤ d.len → limit < length xs + 2
       over e l = omega (arith, (g.framed e).size)
-  good k.Realtime h = (realtime_told store (realtime_of b), g)
+  steps_as_heard k.Realtime h = (realtime_report_heard store (realtime_of b), g)
 
 -- a state that knows no status, has no frame open and nothing pending has seen nothing
 pub cleared_matches : (d : Decoder) (store : List ℕ) → limit ≤ length store → Matches 0 [] (cleared d) store
@@ -228,13 +228,13 @@ pub byte_is_step : (v : ℕ) (xs : List ℕ) (d : Decoder) (store : List ℕ) (b
     → (reports_in (step d b) (stored d store b) ≡ heard v xs b)
     × Matches (next_status (class_of b) v b) (next_data (class_of b) xs b) (step d b).state (stored d store b)
 unfolding step stored heard
-byte_is_step v xs d store b m = good v xs d store m b (class_of b) (range_of b)
+byte_is_step v xs d store b m = steps_as_heard v xs d store m b (class_of b) (range_of b)
 
 -- the state holds what the bytes ahead say once one more has come
 ahead_matches : (past : List ℕ) (d : Decoder) (store : List ℕ) (b : ℕ) → Matches (last_status past) (data_since past) d store
     → Matches (last_status (b ∷ past)) (data_since (b ∷ past)) (step d b).state (stored d store b)
 ahead_matches past d store b g =
-    let same = ahead (class_of b) past b (range_of b) in
+    let same = status_and_data_after (class_of b) past b (range_of b) in
     subst (λ (v : ℕ). Matches v (data_since (b ∷ past)) (step d b).state (stored d store b)) (sym same.0)
     (subst (λ (xs : List ℕ). Matches (next_status (class_of b) (last_status past) b) xs (step d b).state (stored d store b)) (sym same.1)
     (byte_is_step (last_status past) (data_since past) d store b g).1)

@@ -27,8 +27,8 @@ use Rattle.wire.specs.declared.system_common.SystemCommon.{SystemCommon}
 use Rattle.wire.specs.declared.channel_message.ChannelMessage.{ChannelMessage}
 
 -- the status in force: a channel status for good, a common one until its data are there
-abbrev pub held : ℕ → List ℕ → Option ℕ
-held status xs = pick (is_channel_status status) (Some status) (pick (ltb (length xs) (data_length status)) (Some status) None)
+abbrev pub status_held : ℕ → List ℕ → Option ℕ
+status_held status xs = pick (is_channel_status status) (Some status) (pick (ltb (length xs) (data_length status)) (Some status) None)
 
 -- how many data bytes wait for the rest of their message
 abbrev pub pending : ℕ → List ℕ → ℕ
@@ -44,7 +44,7 @@ pub record MatchesFrame (xs : List ℕ) (d : Decoder) (store : List ℕ) : Type 
 
 pub record MatchesClosed (status : ℕ) (xs : List ℕ) (d : Decoder) : Type 0 where
   pub outside : d.in_sysex ≡ false
-  pub force : d.status ≡ held status xs
+  pub force : d.status ≡ status_held status xs
   pub have : d.have ≡ pending status xs
   pub first : pending status xs ≡ 1 → d.data0 ≡ last_of xs
 
@@ -54,17 +54,17 @@ pub record Matches (status : ℕ) (xs : List ℕ) (d : Decoder) (store : List �
   pub plain : is_open status xs ≡ false → MatchesClosed status xs d
 
 -- the message that is reported is the one that history names
-common_told : (store : List ℕ) (x : Option SystemCommon) → told_all store (own_report (common_report x)) ≡ heard_common x
-common_told store (Some x) = refl
-common_told store None = refl
+common_report_heard : (store : List ℕ) (x : Option SystemCommon) → told_all store (own_report (common_report x)) ≡ heard_common x
+common_report_heard store (Some x) = refl
+common_report_heard store None = refl
 
-message_told : (store : List ℕ) (v a b : ℕ) → told_all store (own_report (message_report v a b)) ≡ message v a b
+message_report_heard : (store : List ℕ) (v a b : ℕ) → told_all store (own_report (message_report v a b)) ≡ message v a b
 unfolding message_report message
-message_told store v a b = go (channel_message v a b)
+message_report_heard store v a b = go (channel_message v a b)
   where
     go : (x : Option ChannelMessage) → told_all store (own_report (or_common x v a b)) ≡ heard_message x v a b
     go (Some x) = refl
-    go None = common_told store (common_message v a b)
+    go None = common_report_heard store (common_message v a b)
 
 -- a status behind which nothing has come yet
 pub nothing_pending : (v : ℕ) → pending v [] ≡ 0
@@ -86,15 +86,15 @@ Next v xs b store x = (told_all store (report_list x.interrupted x.report) ≡ h
 
 -- the data byte that makes a message whole
 module _ (v : ℕ) (xs : List ℕ) (d : Decoder) (b : ℕ) (store : List ℕ) where
-  whole : (first second a z : ℕ) → heard_data v xs b ≡ message v a z → kept v ≡ held v (xs ++ (b ∷ [])) → pending v (xs ++ (b ∷ [])) ≡ 0
+  whole : (first second a z : ℕ) → heard_data v xs b ≡ message v a z → kept v ≡ status_held v (xs ++ (b ∷ [])) → pending v (xs ++ (b ∷ [])) ≡ 0
       → Next v xs b store (record { state = completed v first second; interrupted = false; report = message_report v a z })
   whole first second a z e k p = (
-    message_told store v a z ∙ sym e,
+    message_report_heard store v a z ∙ sym e,
     record { outside = refl; force = k; have = sym p; first = λ q. absurd (omega arith) },
   )
 
   -- the first data byte waits for the second
-  waits : heard_data v xs b ≡ [] → held v (xs ++ (b ∷ [])) ≡ Some v → pending v (xs ++ (b ∷ [])) ≡ 1
+  waits : heard_data v xs b ≡ [] → status_held v (xs ++ (b ∷ [])) ≡ Some v → pending v (xs ++ (b ∷ [])) ≡ 1
       → Next v xs b store (record { state = waiting d v b; interrupted = false; report = None })
   waits e k p = (sym e, record { outside = refl; force = sym k; have = sym p; first = λ q. sym (last_is xs b) })
 
@@ -121,7 +121,7 @@ module _ (v : ℕ) (xs : List ℕ) (d : Decoder) (b : ℕ) (store : List ℕ) wh
   channel_next : is_channel_status v ≡ true → MatchesClosed v xs d → Next v xs b store (collect (Some v) d b)
   channel_next c o = split (leb (data_length v) 1) one two
     where
-      stays : kept v ≡ held v (xs ++ (b ∷ []))
+      stays : kept v ≡ status_held v (xs ++ (b ∷ []))
       stays = rw c
 
       one : leb (data_length v) 1 ≡ true → Next v xs b store (collect (Some v) d b)
@@ -154,7 +154,7 @@ module _ (v : ℕ) (xs : List ℕ) (d : Decoder) (b : ℕ) (store : List ℕ) wh
       now : d.have ≡ length xs
       now = o.have ∙ rw (c, lt-ltb _ _ h)
 
-      done : data_length v ≤ length xs + 1 → (kept v ≡ held v (xs ++ (b ∷ []))) × (pending v (xs ++ (b ∷ [])) ≡ 0)
+      done : data_length v ≤ length xs + 1 → (kept v ≡ status_held v (xs ++ (b ∷ []))) × (pending v (xs ++ (b ∷ [])) ≡ 0)
       done g = (rw (c, more, le-ltb (length xs + 1) (data_length v) g), rw (c, more, le-ltb (length xs + 1) (data_length v) g))
 
       one : leb (data_length v) 1 ≡ true → Next v xs b store (collect (Some v) d b)
@@ -206,7 +206,7 @@ module _ (v : ℕ) (xs : List ℕ) (d : Decoder) (b : ℕ) (store : List ℕ) wh
   pub data_next : MatchesClosed v xs d → Next v xs b store (collect d.status d b)
   data_next o = split (is_channel_status v) (λ c. under (Some v) (rw c) (channel_next c o)) other
     where
-      under : (x : Option ℕ) → held v xs ≡ x → Next v xs b store (collect x d b) → Next v xs b store (collect d.status d b)
+      under : (x : Option ℕ) → status_held v xs ≡ x → Next v xs b store (collect x d b) → Next v xs b store (collect d.status d b)
       under x e n = subst (λ (y : Option ℕ). Next v xs b store (collect y d b)) (sym (o.force ∙ e)) n
 
       other : is_channel_status v ≡ false → Next v xs b store (collect d.status d b)

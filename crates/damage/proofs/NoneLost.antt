@@ -20,15 +20,15 @@ use Rattle.damage.specs.Caller.{Caller, total_used}
 use Rattle.damage.specs.Condition3.{Condition3}
 use Rattle.damage.specs.Untouched.{own_places, SentMessage, sent_messages, all_ahead, none_ahead, untouched, arrives_at, first_place, last_place, Placed}
 use Rattle.damage.specs.Untouched.{last_byte_report, untouched_reports, within, in_order, Among, all_found, found, passed, NoneLost}
-use Rattle.damage.proofs.Places.{drop_head, no_tag, At, AllAt, own_stand, all_at}
+use Rattle.damage.proofs.Places.{drop_head, no_tag, MessageAt, AllAt, own_stand, all_at}
 
 -- a report is one of these
-abbrev Has : Reported → List Reported → Type 0
-Has r [] = ⊥
-Has r (x ∷ xs) = (r ≡ x) ⊎ Has r xs
+abbrev IsIn : Reported → List Reported → Type 0
+IsIn r [] = ⊥
+IsIn r (x ∷ xs) = (r ≡ x) ⊎ IsIn r xs
 
 -- an 18 in front hides nothing
-led_has : (t : Bool) (xs : List (List Reported)) (k : ℕ) (r : Reported) → Has r (get_or xs k []) → Has r (get_or (led t xs) k [])
+led_has : (t : Bool) (xs : List (List Reported)) (k : ℕ) (r : Reported) → IsIn r (get_or xs k []) → IsIn r (get_or (led t xs) k [])
 led_has t [] k r h = absurd h
 led_has true (x ∷ xs) zero r h = inr h
 led_has false (x ∷ xs) zero r h = h
@@ -53,14 +53,14 @@ intact_at ts k = get_or-map (λ (t : Tag). t.intact) ts k no_tag
 -- placed reports that each stand at the byte of their place, from a place on and in rising order
 abbrev Found : List (List Reported) → ℕ → List Placed → Type 0
 Found rs low [] = Unit {0}
-Found rs low (x ∷ xs) = (low ≤ x.place) × Has x.report (get_or rs x.place []) × Found rs (suc x.place) xs
+Found rs low (x ∷ xs) = (low ≤ x.place) × IsIn x.report (get_or rs x.place []) × Found rs (suc x.place) xs
 
 -- reports of one byte in front of all others
 pass_all : (place : ℕ) (rs : List Reported) (xs ys : List Placed) → Among xs ys → Among xs (map (λ (r : Reported). record { place = place; report = r }) rs ++ ys)
 pass_all place [] xs ys a = a
 pass_all place (r ∷ rs) xs ys a = passed (pass_all place rs xs ys a)
 
-find : (place : ℕ) (r : Reported) (rs : List Reported) (xs ys : List Placed) → Has r rs → Among xs ys
+find : (place : ℕ) (r : Reported) (rs : List Reported) (xs ys : List Placed) → IsIn r rs → Among xs ys
     → Among (record { place = place; report = r } ∷ xs) (map (λ (z : Reported). record { place = place; report = z }) rs ++ ys)
 find place r [] xs ys h a = absurd h
 find place r (x ∷ rs) xs ys (inl e) a =
@@ -71,41 +71,41 @@ find place r (x ∷ rs) xs ys (inl e) a =
 find place r (x ∷ rs) xs ys (inr h) a = passed (find place r rs xs ys h a)
 
 -- reports that stand at their bytes, each behind the one ahead of it, stand among all reports in their order
-among : (all rest : List (List Reported)) (place : ℕ) (xs : List Placed) → drop place all ≡ rest → Found all place xs → Among xs (in_order place rest)
-among all rest place [] e f = all_found
-among all [] place (x ∷ xs) e f =
+found_are_among : (all rest : List (List Reported)) (place : ℕ) (xs : List Placed) → drop place all ≡ rest → Found all place xs → Among xs (in_order place rest)
+found_are_among all rest place [] e f = all_found
+found_are_among all [] place (x ∷ xs) e f =
     let low = f.0 in
     let short : length all ≤ x.place = omega (arith, length-drop place all, ap length e) in
-    absurd (subst (λ (l : List Reported). Has x.report l) (get_or-eq_default all [] short) f.1)
-among all (rs ∷ rest) place (x ∷ xs) e f =
+    absurd (subst (λ (l : List Reported). IsIn x.report l) (get_or-eq_default all [] short) f.1)
+found_are_among all (rs ∷ rest) place (x ∷ xs) e f =
     let h = drop_head [] all place rs rest e in
     let low = f.0 in
     split (eqb x.place place)
     (λ t. let is : x.place ≡ place = eqb-true x.place place t in
     subst (λ (k : ℕ). Among (record { place = k; report = x.report } ∷ xs) (in_order place (rs ∷ rest))) (sym is)
     (find place x.report rs xs (in_order (suc place) rest)
-    (subst (λ (l : List Reported). Has x.report l) (ap (λ (k : ℕ). get_or all k []) is ∙ h.0) f.1)
-    (among all rest (suc place) xs h.2 (subst (λ (k : ℕ). Found all (suc k) xs) is f.2))))
+    (subst (λ (l : List Reported). IsIn x.report l) (ap (λ (k : ℕ). get_or all k []) is ∙ h.0) f.1)
+    (found_are_among all rest (suc place) xs h.2 (subst (λ (k : ℕ). Found all (suc k) xs) is f.2))))
     (λ t. let other = eqb-false x.place place t in
-    pass_all place rs (x ∷ xs) (in_order (suc place) rest) (among all rest (suc place) (x ∷ xs) h.2 (omega (arith, other), f.1, f.2)))
+    pass_all place rs (x ∷ xs) (in_order (suc place) rest) (found_are_among all rest (suc place) (x ∷ xs) h.2 (omega (arith, other), f.1, f.2)))
 
 module _ (i n : ℕ) (new : List ℕ) (sent : List Tag) (caused : List (List Reported)) (one_each : length caused ≡ length (break_bytes i n new sent)) where
   coming : List (List Reported)
   coming = around_break i n new sent caused
 
   -- the report of a message before the run arrives at the place where it was sent
-  before_has : (p : ℕ) (e : Event) → p < i → p < length sent → (get_or sent p no_tag).intact ≡ gives e ∷ [] → Has (gives e) (get_or coming p [])
+  before_has : (p : ℕ) (e : Event) → p < i → p < length sent → (get_or sent p no_tag).intact ≡ gives e ∷ [] → IsIn (gives e) (get_or coming p [])
   unfolding coming
   before_has p e h inside is =
       let size : length (intacts (before_run i sent)) ≡ length (take i sent) = length-map (take i sent) (λ (t : Tag). t.intact) in
       let there : p < length (intacts (before_run i sent)) = omega (arith, size, length-take i sent) in
       let same : get_or coming p [] ≡ gives e ∷ [] =
       get_or-append (intacts (before_run i sent)) _ [] p there ∙ intact_at (take i sent) p ∙ ap (λ (t : Tag). t.intact) (get_or-take i sent p no_tag h) ∙ is in
-      subst (λ (l : List Reported). Has (gives e) l) (sym same) (inl refl)
+      subst (λ (l : List Reported). IsIn (gives e) l) (sym same) (inl refl)
 
   -- the report of a message wholly after the run arrives as much further on or back as the break is longer or shorter than the run
   after_has : (first p : ℕ) (e : Event) → i + n ≤ first → first ≤ p → p < length sent → (get_or sent first no_tag).first ≡ true
-      → (get_or sent p no_tag).intact ≡ gives e ∷ [] → Has (gives e) (get_or coming (p - n + length new) [])
+      → (get_or sent p no_tag).intact ≡ gives e ∷ [] → IsIn (gives e) (get_or coming (p - n + length new) [])
   unfolding coming
   after_has first p e h order inside begins is =
       let rest : List Tag = after_run i n sent in
@@ -127,8 +127,8 @@ module _ (i n : ℕ) (new : List ℕ) (sent : List Tag) (caused : List (List Rep
       let tail : List (List Reported) = led (open_there i n new sent) (intacts (from_first rest)) in
       let same : get_or coming (p - n + length new) [] ≡ get_or tail k [] =
       ap (λ (j : ℕ). get_or coming j []) there ∙ get_or-append-add (intacts (before_run i sent)) (caused ++ tail) (length caused + k) [] ∙ get_or-append-add caused tail k [] in
-      subst (λ (l : List Reported). Has (gives e) l) (sym same)
-      (led_has (open_there i n new sent) (intacts (from_first rest)) k (gives e) (subst (λ (l : List Reported). Has (gives e) l) (sym reads) (inl refl)))
+      subst (λ (l : List Reported). IsIn (gives e) l) (sym same)
+      (led_has (open_there i n new sent) (intacts (from_first rest)) k (gives e) (subst (λ (l : List Reported). IsIn (gives e) l) (sym reads) (inl refl)))
     where
       again : (a b : ℕ) → a ≤ b → a + (b - a) ≡ b
       again a b q = omega arith
@@ -138,16 +138,16 @@ module _ (i n : ℕ) (new : List ℕ) (sent : List Tag) (caused : List (List Rep
   Side p q = ((p < i) × (q ≡ p)) ⊎ ((i + n ≤ p) × (q ≡ p - n + length new))
 
   -- where an untouched message's last byte arrives, the message is reported
-  untouched_has : (low : ℕ) (ps : List ℕ) (e : Event) → At sent low ps e → (all_ahead i ps || none_ahead (i + n) ps) ≡ true
-      → Side (last_place ps) (arrives_at i n new (last_place ps)) × Has (gives e) (get_or coming (arrives_at i n new (last_place ps)) [])
+  untouched_has : (low : ℕ) (ps : List ℕ) (e : Event) → MessageAt sent low ps e → (all_ahead i ps || none_ahead (i + n) ps) ≡ true
+      → Side (last_place ps) (arrives_at i n new (last_place ps)) × IsIn (gives e) (get_or coming (arrives_at i n new (last_place ps)) [])
   untouched_has low ps e a t = split (all_ahead i ps) ahead behind
     where
-      ahead : all_ahead i ps ≡ true → Side (last_place ps) (arrives_at i n new (last_place ps)) × Has (gives e) (get_or coming (arrives_at i n new (last_place ps)) [])
+      ahead : all_ahead i ps ≡ true → Side (last_place ps) (arrives_at i n new (last_place ps)) × IsIn (gives e) (get_or coming (arrives_at i n new (last_place ps)) [])
       ahead h =
           let less : last_place ps < i = a.before i h in
           rw (lt-ltb (last_place ps) i less) (inl (less, refl), before_has (last_place ps) e less a.inside a.ends)
 
-      behind : all_ahead i ps ≡ false → Side (last_place ps) (arrives_at i n new (last_place ps)) × Has (gives e) (get_or coming (arrives_at i n new (last_place ps)) [])
+      behind : all_ahead i ps ≡ false → Side (last_place ps) (arrives_at i n new (last_place ps)) × IsIn (gives e) (get_or coming (arrives_at i n new (last_place ps)) [])
       behind h =
           let far : i + n ≤ first_place ps = leb-true (i + n) (first_place ps) (sym (a.behind (i + n)) ∙ rw h at t) in
           let order = a.first_last in
@@ -177,7 +177,7 @@ module _ (i n : ℕ) (new : List ℕ) (sent : List Tag) (caused : List (List Rep
       by_test (λ (l : List Placed). Found (take used coming) place l) (ltb q used) _ _
       (λ u. (
         f (last_place ps) q (omega (arith, a.0.low_first, a.0.first_last)) r.0,
-        subst (λ (l : List Reported). Has (gives (event_of x.message)) l) (sym (get_or-take used coming q [] (ltb-true q used u))) r.1,
+        subst (λ (l : List Reported). IsIn (gives (event_of x.message)) l) (sym (get_or-take used coming q [] (ltb-true q used u))) r.1,
         all_have used xs (suc (last_place ps)) (suc q) a.1 (fits_next (last_place ps) q r.0),
       )) (λ u. skip))
       (λ t. skip)
@@ -213,7 +213,7 @@ none_lost c start holds ms ok sent woven i n new store room cs log made =
     let all : List (List Reported) = take used (around_break i n new sent s.caused) in
     let there = all_at sent ms ok 0 (own_places woven 0) (own_stand woven sent 0 refl) in
     subst (λ (rs : List (List Reported)). Among (within used (untouched_reports i n new (sent_messages ms (own_places woven 0)))) (in_order 0 rs)) (sym s.exactly.0)
-    (among all all 0 _ refl (all_have i n new sent s.caused s.one_each used (sent_messages ms (own_places woven 0)) 0 0 there (λ p q h t. omega arith)))
+    (found_are_among all all 0 _ refl (all_have i n new sent s.caused s.one_each used (sent_messages ms (own_places woven 0)) 0 0 there (λ p q h t. omega arith)))
 
 -- where all that arrives was used, every untouched message is one of those
 pub none_left_out : (ms : List Message) → all_sendable ms ≡ true → (sent : List Tag) (woven : Sent (all_tagged ms) sent) (i n : ℕ) (new : List ℕ) (used : ℕ)

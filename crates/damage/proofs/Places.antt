@@ -51,7 +51,7 @@ own_stand (between b {ts} {us} low w) sent k e =
     from_lower sent k (suc k) (own_places w (suc k)) ts (omega arith) (own_stand w sent (suc k) h.2)
 
 -- a message in what is sent: from a place on, at these places, reported as this event
-pub record At (sent : List Tag) (low : ℕ) (ps : List ℕ) (e : Event) : Type 0 where
+pub record MessageAt (sent : List Tag) (low : ℕ) (ps : List ℕ) (e : Event) : Type 0 where
   pub low_first : low ≤ first_place ps
   pub begins : (get_or sent (first_place ps) no_tag).first ≡ true
   pub first_last : first_place ps ≤ last_place ps
@@ -61,7 +61,7 @@ pub record At (sent : List Tag) (low : ℕ) (ps : List ℕ) (e : Event) : Type 0
   pub behind : (i : ℕ) → none_ahead i ps ≡ leb i (first_place ps)
 
 -- the end of a message
-record End (sent : List Tag) (low : ℕ) (ps : List ℕ) (e : Event) (rest : List ℕ) (ts : List Tag) : Type 0 where
+record MessageEnd (sent : List Tag) (low : ℕ) (ps : List ℕ) (e : Event) (rest : List ℕ) (ts : List Tag) : Type 0 where
   reached : low ≤ last_place ps
   inside : last_place ps < length sent
   ends : (get_or sent (last_place ps) no_tag).intact ≡ gives e ∷ []
@@ -74,10 +74,10 @@ module _ (sent : List Tag) where
   no_place first e b [] low ts s = s
   no_place first e b (x ∷ bs) low ts s = s
 
-  end : (first : Bool) (e : Event) (b : ℕ) (bs : List ℕ) (low : ℕ) (ps : List ℕ) (ts : List Tag) → Stands sent low ps (tags first e (b ∷ bs) ++ ts)
-      → End sent low (take (length (b ∷ bs)) ps) e (drop (length (b ∷ bs)) ps) ts
-  end first e b bs low [] ts s = absurd (no_place first e b bs low ts s)
-  end first e b [] low (p ∷ ps) ts s =
+  message_end : (first : Bool) (e : Event) (b : ℕ) (bs : List ℕ) (low : ℕ) (ps : List ℕ) (ts : List Tag) → Stands sent low ps (tags first e (b ∷ bs) ++ ts)
+      → MessageEnd sent low (take (length (b ∷ bs)) ps) e (drop (length (b ∷ bs)) ps) ts
+  message_end first e b bs low [] ts s = absurd (no_place first e b bs low ts s)
+  message_end first e b [] low (p ∷ ps) ts s =
       record {
         reached = s.0;
         inside = s.1;
@@ -86,9 +86,9 @@ module _ (sent : List Tag) where
         behind = λ i h. rw (le-leb i p (omega (arith, s.0)));
         others = s.3;
       }
-  end first e b (x ∷ bs) low (p ∷ []) ts s = absurd (no_place false e x bs (suc p) ts s.3)
-  end first e b (x ∷ bs) low (p ∷ q ∷ ps) ts s =
-      let r = end false e x bs (suc p) (q ∷ ps) ts s.3 in
+  message_end first e b (x ∷ bs) low (p ∷ []) ts s = absurd (no_place false e x bs (suc p) ts s.3)
+  message_end first e b (x ∷ bs) low (p ∷ q ∷ ps) ts s =
+      let r = message_end false e x bs (suc p) (q ∷ ps) ts s.3 in
       let far = r.reached in
       let near = s.0 in
       record {
@@ -102,11 +102,11 @@ module _ (sent : List Tag) where
 
   -- a whole message
   message_at : (e : Event) (b : ℕ) (bs : List ℕ) (low : ℕ) (ps : List ℕ) (ts : List Tag) → Stands sent low ps (tags true e (b ∷ bs) ++ ts)
-      → At sent low (take (length (b ∷ bs)) ps) e × Stands sent (suc (last_place (take (length (b ∷ bs)) ps))) (drop (length (b ∷ bs)) ps) ts
+      → MessageAt sent low (take (length (b ∷ bs)) ps) e × Stands sent (suc (last_place (take (length (b ∷ bs)) ps))) (drop (length (b ∷ bs)) ps) ts
   message_at e b bs low [] ts s = absurd (no_place true e b bs low ts s)
   message_at e b bs low (p ∷ ps) ts s =
       let h = head bs s in
-      let r = end true e b bs p (p ∷ ps) ts h.2 in (
+      let r = message_end true e b bs p (p ∷ ps) ts h.2 in (
         record {
           low_first = h.0;
           begins = h.1;
@@ -125,17 +125,17 @@ module _ (sent : List Tag) where
       head (x ∷ l) t = (t.0, ap (λ (z : Tag). z.first) t.2, (omega arith, t.1, t.2, t.3))
 
   pub sendable_at : (m : Message) → sendable m ≡ true → (low : ℕ) (ps : List ℕ) (ts : List Tag) → Stands sent low ps (tagged m ++ ts)
-      → At sent low (take (length (bytes_of m)) ps) (event_of m) × Stands sent (suc (last_place (take (length (bytes_of m)) ps))) (drop (length (bytes_of m)) ps) ts
+      → MessageAt sent low (take (length (bytes_of m)) ps) (event_of m) × Stands sent (suc (last_place (take (length (bytes_of m)) ps))) (drop (length (bytes_of m)) ps) ts
   sendable_at m ok low ps ts =
       let f = own_status m ok in
       let P : List ℕ → Type 0 = λ (l : List ℕ). Stands sent low ps (tags true (event_of m) l ++ ts)
-      → At sent low (take (length l) ps) (event_of m) × Stands sent (suc (last_place (take (length l) ps))) (drop (length l) ps) ts in
+      → MessageAt sent low (take (length l) ps) (event_of m) × Stands sent (suc (last_place (take (length l) ps))) (drop (length l) ps) ts in
       subst P (sym f.is) (message_at (event_of m) f.status f.behind low ps ts)
 
   -- all messages, one behind the other
   abbrev pub AllAt : ℕ → List SentMessage → Type 0
   AllAt low [] = Unit {0}
-  AllAt low (x ∷ xs) = At sent low x.places (event_of x.message) × AllAt (suc (last_place x.places)) xs
+  AllAt low (x ∷ xs) = MessageAt sent low x.places (event_of x.message) × AllAt (suc (last_place x.places)) xs
 
   pub all_at : (ms : List Message) → all_sendable ms ≡ true → (low : ℕ) (ps : List ℕ) → Stands sent low ps (all_tagged ms) → AllAt low (sent_messages ms ps)
   all_at [] ok low ps s = tt

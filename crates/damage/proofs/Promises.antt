@@ -1,4 +1,5 @@
--- All promises of any caller whose calls report what history says.
+-- All promises hold of any caller whose calls report what history says, because condition 3 is what history says of all that arrives, and it
+-- leaves no untouched message out.
 use Rattle.damage.specs.Caller.{Caller}
 use Rattle.damage.specs.Meaning.{CallsMean}
 use Rattle.damage.specs.Promises.{Promises}

@@ -37,27 +37,27 @@ module _ (store : List ℕ) (room : limit ≤ length store) where
   marked_rows_f_to_j = (says _, says _, says _, says _, says _)
 
 -- F0, so many data bytes, and then these, over a store of 2,354 bytes
-abbrev pub framed : ℕ → List ℕ → List ℕ
-framed n rest = 0xF0 ∷ replicate n 1 ++ rest
+abbrev pub frame_begun : ℕ → List ℕ → List ℕ
+frame_begun n rest = 0xF0 ∷ replicate n 1 ++ rest
 
 abbrev pub blank : List ℕ
 blank = replicate 2354 0
 
 -- 2,352 data bytes: a frame of 2,354 bytes is reported
-pub edge_2352 : ((walk fresh blank (framed 2352 (0xF7 ∷ []))).fed.used ≡ 2354) × ((walk fresh blank (framed 2352 (0xF7 ∷ []))).fed.report ≡ Some (r.SysEx 2354))
+pub edge_2352 : ((walk fresh blank (frame_begun 2352 (0xF7 ∷ []))).fed.used ≡ 2354) × ((walk fresh blank (frame_begun 2352 (0xF7 ∷ []))).fed.report ≡ Some (r.SysEx 2354))
 unfolding walk step stored class_of limit
 edge_2352 = (refl, refl)
 
 -- 2,353 data bytes: F7 drops the frame with 19; F6 breaks it off with 18
 pub edge_2353 :
-    ((walk fresh blank (framed 2353 (0xF7 ∷ []))).fed.used ≡ 2355) × ((walk fresh blank (framed 2353 (0xF7 ∷ []))).fed.report ≡ Some (r.SysExTooLong 2354))
-    × ((walk fresh blank (framed 2353 (0xF6 ∷ []))).fed.used ≡ 2355) × ((walk fresh blank (framed 2353 (0xF6 ∷ []))).fed.interrupted ≡ true)
+    ((walk fresh blank (frame_begun 2353 (0xF7 ∷ []))).fed.used ≡ 2355) × ((walk fresh blank (frame_begun 2353 (0xF7 ∷ []))).fed.report ≡ Some (r.SysExTooLong 2354))
+    × ((walk fresh blank (frame_begun 2353 (0xF6 ∷ []))).fed.used ≡ 2355) × ((walk fresh blank (frame_begun 2353 (0xF6 ∷ []))).fed.interrupted ≡ true)
 unfolding walk step stored class_of limit
 edge_2353 = (refl, refl, refl, refl)
 
 -- 2,354 data bytes: the last of them drops the frame with 19, and no frame is open any more
 pub edge_2354 :
-    ((walk fresh blank (framed 2354 (0xF6 ∷ []))).fed.used ≡ 2355) × ((walk fresh blank (framed 2354 (0xF6 ∷ []))).fed.report ≡ Some (r.SysExTooLong 2354))
-    × ((walk fresh blank (framed 2354 (0xF6 ∷ []))).fed.state.in_sysex ≡ false)
+    ((walk fresh blank (frame_begun 2354 (0xF6 ∷ []))).fed.used ≡ 2355) × ((walk fresh blank (frame_begun 2354 (0xF6 ∷ []))).fed.report ≡ Some (r.SysExTooLong 2354))
+    × ((walk fresh blank (frame_begun 2354 (0xF6 ∷ []))).fed.state.in_sysex ≡ false)
 unfolding walk step stored class_of limit
 edge_2354 = (refl, refl, refl)

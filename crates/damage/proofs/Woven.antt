@@ -22,7 +22,7 @@ use Rattle.damage.specs.Reported.{Reported, heard_realtime}
 use Rattle.damage.specs.History.{heard, meaning}
 use Rattle.damage.specs.Sent.{Message, Voice, Common, Frame, bytes_of, sendable, all_sendable, event_of, Tag, tags, all_tagged, realtime_tag, Sent, nothing, own, between, bytes, intacts}
 use Rattle.damage.specs.Damage.{from_first}
-use Rattle.damage.proofs.Ahead.{ahead}
+use Rattle.damage.proofs.Ahead.{status_and_data_after}
 use Rattle.damage.proofs.MessagesRead.{Reads}
 
 -- a real-time byte reports itself
@@ -35,10 +35,10 @@ pub woven : {ts us : List Tag} → Sent ts us → (past : List ℕ) → Reads (l
 unfolding meaning
 woven nothing past r = refl
 woven (own {t} {ts} {us} w) past r =
-    let same = ahead (class_of t.byte) past t.byte (range_of t.byte) in
+    let same = status_and_data_after (class_of t.byte) past t.byte (range_of t.byte) in
     ap₂ (λ (x : List Reported) (rest : List (List Reported)). x ∷ rest) r.0 (woven w (t.byte ∷ past) (rw (same.0, same.1) r.1))
 woven (between b {ts} {us} h w) past r =
-    let same = ahead k.Realtime past b h in
+    let same = status_and_data_after k.Realtime past b h in
     ap₂ (λ (x : List Reported) (rest : List (List Reported)). x ∷ rest) (realtime_heard (last_status past) (data_since past) b h)
     (woven w (b ∷ past) (rw (same.0, same.1) r))
 
@@ -95,9 +95,9 @@ own_status (Common y.TuneRequest) ok = record { status = 0xF6; behind = []; is =
 own_status (Frame xs) ok = record { status = 0xF0; behind = xs ++ (0xF7 ∷ []); is = refl; low = omega arith; high = omega arith }
 
 -- only the status byte of a message is its first
-from_status : (e : Event) (b : ℕ) (bs : List ℕ) (rest : List Tag) → from_first (tags true e (b ∷ bs) ++ rest) ≡ tags true e (b ∷ bs) ++ rest
-from_status e b [] rest = refl
-from_status e b (x ∷ bs) rest = refl
+from_first_status : (e : Event) (b : ℕ) (bs : List ℕ) (rest : List Tag) → from_first (tags true e (b ∷ bs) ++ rest) ≡ tags true e (b ∷ bs) ++ rest
+from_first_status e b [] rest = refl
+from_first_status e b (x ∷ bs) rest = refl
 
 behind_status : (e : Event) (b : ℕ) (bs : List ℕ) (rest : List Tag) (j : ℕ) → drop (suc j) (tags true e (b ∷ bs) ++ rest) ≡ drop j (tags false e bs ++ rest)
 behind_status e b [] rest j = refl
@@ -124,7 +124,7 @@ whole_behind (m ∷ ms) ok zero =
     record {
       messages = m ∷ ms;
       is = subst (λ (l : List ℕ). from_first (tags true (event_of m) l ++ all_tagged ms) ≡ tags true (event_of m) l ++ all_tagged ms) (sym s.is)
-          (from_status (event_of m) s.status s.behind (all_tagged ms));
+          (from_first_status (event_of m) s.status s.behind (all_tagged ms));
       ok = ok;
     }
 whole_behind (m ∷ ms) ok (suc j) =

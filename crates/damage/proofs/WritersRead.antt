@@ -37,8 +37,8 @@ use Rattle.damage.proofs.MessagesRead.{messages_read}
 use Rattle.damage.proofs.Woven.{realtime_heard, woven}
 
 -- a writer that accepts leaves its bytes at the buffer's front
-wrote : (bs out later : List ℕ) (count : ℕ) → Writes (with_room (length out) bs) (Ok count) out later → take count later ≡ bs
-wrote bs out later count w = split (leb (length bs) (length out)) fits refused_instead
+written_bytes : (bs out later : List ℕ) (count : ℕ) → Writes (with_room (length out) bs) (Ok count) out later → take count later ≡ bs
+written_bytes bs out later count w = split (leb (length bs) (length out)) fits refused_instead
   where
     fits : leb (length bs) (length out) ≡ true → take count later ≡ bs
     fits e =
@@ -74,7 +74,7 @@ module _ (store : List ℕ) (room : limit ≤ length store) (out later : List �
   pub channel_writer_reads : (c : Channel) (m : ChannelMessage) → c.0 < 16 → message_in_range m ≡ true
       → Writes (channel_write c m (length out)) (Ok count) out later → singly fresh store (take count later) ≡ intacts (tagged (Voice c m))
   channel_writer_reads c m h ok w =
-      ap (singly fresh store) (wrote (channel_bytes c m) out later count (subst (λ o. Writes o (Ok count) out later) same w))
+      ap (singly fresh store) (written_bytes (channel_bytes c m) out later count (subst (λ o. Writes o (Ok count) out later) same w))
       ∙ read_alone (Voice c m) (rw (lt-ltb c.0 16 h, ok, le-leb (length (channel_bytes c m)) limit short)) store room
     where
       same : channel_write c m (length out) ≡ with_room (length out) (channel_bytes c m)
@@ -86,7 +86,7 @@ module _ (store : List ℕ) (room : limit ≤ length store) (out later : List �
   pub common_writer_reads : (s : CommonStatus) (v : ℕ) → common_in_range (common s v) ≡ true
       → Writes (common_write s v (length out)) (Ok count) out later → singly fresh store (take count later) ≡ intacts (tagged (Common (common s v)))
   common_writer_reads s v ok w =
-      ap (singly fresh store) (wrote (common_bytes (common s v)) out later count (subst (λ o. Writes o (Ok count) out later) same w))
+      ap (singly fresh store) (written_bytes (common_bytes (common s v)) out later count (subst (λ o. Writes o (Ok count) out later) same w))
       ∙ read_alone (Common (common s v)) (rw (ok, le-leb (length (common_bytes (common s v))) limit (short (common s v)))) store room
     where
       same : common_write s v (length out) ≡ with_room (length out) (common_bytes (common s v))
@@ -102,7 +102,7 @@ module _ (store : List ℕ) (room : limit ≤ length store) (out later : List �
       → singly fresh store (take count later) ≡ (gives (realtime m) ∷ []) ∷ []
   unfolding meaning
   realtime_writer_reads m w =
-      ap (singly fresh store) (wrote (realtime_byte m ∷ []) out later count w)
+      ap (singly fresh store) (written_bytes (realtime_byte m ∷ []) out later count w)
       ∙ history_is_step [] fresh store (realtime_byte m ∷ []) (cleared_matches fresh store room) ∙ ap (λ (x : List Reported). x ∷ []) (itself m)
     where
       itself : (x : Realtime) → heard 0 [] (realtime_byte x) ≡ gives (realtime x) ∷ []

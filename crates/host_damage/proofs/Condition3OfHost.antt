@@ -17,7 +17,7 @@ use Rattle.damage.specs.Caller.{Call, CallLog, Made, Exactly}
 use Rattle.damage.specs.Condition3.{Condition3}
 use Rattle.damage.specs.Promises.{Promises}
 use Rattle.damage.specs.Calls.{singly}
-use Rattle.damage.proofs.Hearing.{Answers, made_exists}
+use Rattle.damage.proofs.Hearing.{AlwaysAnswers, made_exists}
 use Rattle.damage.proofs.Thin.{IsCall, Thin, thin_singly, thin_promises}
 use Rattle.stream.specs.declared.FedAnswer.{FedAnswer}
 use Rattle.stream.specs.State.{encoded, state_of}
@@ -88,7 +88,7 @@ pub condition_3_of_host : Condition3 by_host (replicate 14 0)
 condition_3_of_host = (promises_by_host fresh).condition_3
 
 -- the contract has an answer to every call, also on bytes that are no state's, and so the calls can be made
-answers : Answers by_host
+answers : AlwaysAnswers by_host
 answers state store bytes =
     let o = feed_call state store bytes in
     (fed_answer o, state_after o state, store_of o store, record { answers = refl; keeps = refl; leaves = refl })
