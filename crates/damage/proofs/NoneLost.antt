@@ -22,7 +22,7 @@ use Rattle.damage.specs.Untouched.{own_places, SentMessage, sent_messages, all_a
 use Rattle.damage.specs.Untouched.{last_byte_report, untouched_reports, within, in_order, Among, all_found, found, passed, NoneLost}
 use Rattle.damage.proofs.Places.{drop_head, no_tag, MessageAt, AllAt, own_stand, all_at}
 
--- a report is one of these
+-- a report is in a list of reports
 abbrev IsIn : Reported → List Reported → Type 0
 IsIn r [] = ⊥
 IsIn r (x ∷ xs) = (r ≡ x) ⊎ IsIn r xs
@@ -182,7 +182,7 @@ module _ (i n : ℕ) (new : List ℕ) (sent : List Tag) (caused : List (List Rep
       )) (λ u. skip))
       (λ t. skip)
 
-  -- where all that arrives was used, none of them is left out
+  -- where all that arrives was used, no untouched message is left out
   all_within : (used : ℕ) → length (arrives i n new sent) ≤ used → (xs : List SentMessage) (low : ℕ) → AllAt sent low xs
       → within used (untouched_reports i n new xs) ≡ untouched_reports i n new xs
   all_within used enough [] low a = refl
@@ -215,7 +215,7 @@ none_lost c start holds ms ok sent woven i n new store room cs log made =
     subst (λ (rs : List (List Reported)). Among (within used (untouched_reports i n new (sent_messages ms (own_places woven 0)))) (in_order 0 rs)) (sym s.exactly.0)
     (found_are_among all all 0 _ refl (all_have i n new sent s.caused s.one_each used (sent_messages ms (own_places woven 0)) 0 0 there (λ p q h t. omega arith)))
 
--- where all that arrives was used, every untouched message is one of those
+-- where all that arrives was used, every untouched message is among those that `none_lost` speaks of
 pub none_left_out : (ms : List Message) → all_sendable ms ≡ true → (sent : List Tag) (woven : Sent (all_tagged ms) sent) (i n : ℕ) (new : List ℕ) (used : ℕ)
     → length (arrives i n new sent) ≤ used
     → within used (untouched_reports i n new (sent_messages ms (own_places woven 0))) ≡ untouched_reports i n new (sent_messages ms (own_places woven 0))

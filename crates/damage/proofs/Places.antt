@@ -155,7 +155,7 @@ firsts [] ps = []
 firsts (t ∷ ts) [] = []
 firsts (t ∷ ts) (p ∷ ps) = pick t.first (p ∷ firsts ts ps) (firsts ts ps)
 
--- a real-time byte is not marked
+-- a real-time byte is not marked first, so the marks are those of the messages alone
 woven_marked : {ts us : List Tag} (w : Sent ts us) (k : ℕ) → marked us k ≡ firsts ts (own_places w k)
 woven_marked nothing k = refl
 woven_marked (own {t} {ts} {us} w) k = let r = woven_marked w (suc k) in ap (λ (l : List ℕ). pick t.first (k ∷ l) l) r
@@ -165,7 +165,7 @@ no_places : (ts : List Tag) → firsts ts [] ≡ []
 no_places [] = refl
 no_places (t ∷ ts) = refl
 
--- of a message's bytes only the first is
+-- of a message's bytes only the first is marked first
 over_rest : (e : Event) (bs : List ℕ) (ps : List ℕ) (ts : List Tag) → firsts (tags false e bs ++ ts) ps ≡ firsts ts (drop (length bs) ps)
 over_rest e [] ps ts = refl
 over_rest e (b ∷ []) [] ts = sym (no_places ts)
@@ -203,7 +203,7 @@ abbrev first_from : ℕ → ℕ → List ℕ → ℕ
 first_from m end [] = end
 first_from m end (p ∷ ps) = pick (leb m p) p (first_from m end ps)
 
--- a message is wholly after exactly if its first byte is
+-- a message is wholly after the run exactly if its first byte is after it
 after_is_from : (sent : List Tag) (i n end : ℕ) (xs : List SentMessage) (low : ℕ) → AllAt sent low xs
     → first_after i n end xs ≡ first_from (i + n) end (map (λ (x : SentMessage). first_place x.places) xs)
 after_is_from sent i n end [] low a = refl

@@ -24,10 +24,11 @@ unsound_refused d store bytes h = split (leb limit (length store)) (λ e. rw (e,
 pub ready_walks : (d : Decoder) (store bytes : List ℕ) → limit ≤ length store → sound d ≡ true → call d store bytes ≡ gives (walk d store bytes)
 ready_walks d store bytes room h = rw (le-leb limit (length store) room, h)
 
--- the code's answers
+-- a call that is refused answers 20 and leaves the store as it was
 pub feeds_refused : (o : Outcome Walked) (store : List ℕ) → o ≡ refused 20 [] → Feeds o (Err e.BadStore) store store
 feeds_refused o store h = record { answers = rw h; leaves = rw h }
 
+-- a call that walks answers what the walk did and leaves the store that it left
 pub feeds : (o : Outcome Walked) (w : Walked) (fed : Fed) (store afterwards : List ℕ) → o ≡ gives w → Walks w fed afterwards
     → Feeds o (Ok fed) store afterwards
 feeds o w fed store afterwards h k = record { answers = rw (h, k.told); leaves = rw h k.left }

@@ -1,4 +1,5 @@
--- How the lengths of raw and packed bytes fit together: divisions by 7 and 8.
+-- The lengths of raw and packed bytes fit together, because packed bytes come in whole groups of eight, and each group gives back
+-- seven raw bytes.
 use mathlib.Core.Path.{◌≡◌, sym}
 use mathlib.Core.Bool.{true, not}
 use mathlib.Core.List.{[], ◌∷◌}

@@ -19,8 +19,8 @@ use Rattle.packed.proofs.Groups.{bit_more}
 use Rattle.packed.proofs.Lengths.{packed_then_unpacked}
 
 -- a list of bytes
-abbrev pub Bytes : List ℕ → Type 0
-Bytes raw = (i : ℕ) → get_or raw i 0 < 256
+abbrev pub AllBytes : List ℕ → Type 0
+AllBytes raw = (i : ℕ) → get_or raw i 0 < 256
 
 -- one bit of a sum of seven bits
 seven_places : (a b c d e f g : ℕ) → ℕ
@@ -39,7 +39,7 @@ module _ (a b c d e f g : ℕ) (ha : a < 2) (hb : b < 2) (hc : c < 2) (hd : d < 
   bit (suc (suc (suc (suc (suc (suc (suc i))))))) h = absurd (omega arith)
 
 -- the top bits of a group: bit i is the top bit of raw byte i
-top_bit : (raw : List ℕ) (p i : ℕ) → Bytes raw → i < 7 → tops raw p 7 / 2 ^ i % 2 ≡ get_or raw (p + i) 0 / 128
+top_bit : (raw : List ℕ) (p i : ℕ) → AllBytes raw → i < 7 → tops raw p 7 / 2 ^ i % 2 ≡ get_or raw (p + i) 0 / 128
 unfolding tops seven_places
 top_bit raw p i bytes h =
     bit (x 0) (x 1) (x 2) (x 3) (x 4) (x 5) (x 6) (small 0) (small 1) (small 2) (small 3) (small 4) (small 5) (small 6) i h
@@ -92,7 +92,7 @@ packed_data raw g i b h =
         rw (ne_eqb (1 + i) 0 (λ e. omega arith)) (ap (λ (n : ℕ). get_or raw n 0 % 128) back)
 
 -- raw byte k comes back
-byte_back : (raw : List ℕ) (k : ℕ) → Bytes raw → k < unpacked_length (packed_length (length raw)) → unpacked_byte (packed raw) k ≡ get_or raw k 0
+byte_back : (raw : List ℕ) (k : ℕ) → AllBytes raw → k < unpacked_length (packed_length (length raw)) → unpacked_byte (packed raw) k ≡ get_or raw k 0
 byte_back raw k bytes h =
     let g = k / 7 in
     let i = k % 7 in
@@ -105,7 +105,7 @@ byte_back raw k bytes h =
     ∙ omega (arith, bytes k)
 
 -- "unpacking what was packed gives the raw bytes and then zeros", as many as fill the last group
-pub unpacks_what_was_packed : (raw : List ℕ) → Bytes raw
+pub unpacks_what_was_packed : (raw : List ℕ) → AllBytes raw
     → unpacked (packed raw) ≡ raw ++ replicate (unpacked_length (packed_length (length raw)) - length raw) 0
 unpacks_what_was_packed raw bytes =
     ext_get_or 0 (unpacked (packed raw)) (raw ++ replicate (all - length raw) 0) (length_tab (unpacked_byte (packed raw)) _ ∙ count ∙ whole)
@@ -125,13 +125,13 @@ unpacks_what_was_packed raw bytes =
     whole = simp (length-append, length-replicate) (omega (arith, packed_then_unpacked (length raw)))
 
 -- packed bytes are all below 80
-tops_below : (raw : List ℕ) (p n : ℕ) → Bytes raw → tops raw p n < 2 ^ n
+tops_below : (raw : List ℕ) (p n : ℕ) → AllBytes raw → tops raw p n < 2 ^ n
 unfolding tops
 tops_below raw p zero bytes = omega arith
 tops_below raw p (suc n) bytes =
     rw (add-one n) at (bit_more (tops raw p n) (get_or raw (p + n) 0 / 128) n (tops_below raw p n bytes) (omega (arith, bytes (p + n))))
 
-pub packed_below_80 : (raw : List ℕ) (j : ℕ) → Bytes raw → j < length (packed raw) → get_or (packed raw) j 0 < 0x80
+pub packed_below_80 : (raw : List ℕ) (j : ℕ) → AllBytes raw → j < length (packed raw) → get_or (packed raw) j 0 < 0x80
 packed_below_80 raw j bytes h =
     rw (get_or_tab (packed_byte raw) (packed_length (length raw)) j 0 (rw (length_tab (packed_byte raw) (packed_length (length raw))) at h))
     (below (eqb (j % 8) 0))

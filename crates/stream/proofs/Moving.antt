@@ -12,7 +12,7 @@ use borrow.Rule.Slice.PartMut.{put_mid}
 use Rattle.laws.specs.Window.{window}
 use Rattle.laws.proofs.Window.{window_more, window_front, lent_window}
 use Rattle.octets.specs.quick.Words.{word_at, put_word}
-use Rattle.octets.proofs.words.Words.{word_stored}
+use Rattle.octets.proofs.words.Words.{word_copied}
 use Rattle.octets.specs.quick.Data.{data_run}
 use Rattle.octets.proofs.data_bytes.Runs.{run_within, run_more, run_take}
 use Rattle.octets.proofs.data_bytes.Words.{word_more, no_tops}
@@ -41,7 +41,7 @@ module _ {from before store : List ℕ} {n : ℕ} (room : length from ≤ length
       rw (next, stored)
       record {
         run = word_more from n m.run (omega arith) (no_tops from n w small e none);
-        moved = word_stored from store n n w small e
+        moved = word_copied from store n n w small e
             ∙ one 7 (n + 8) (omega arith) (omega arith)
             (one 6 (n + 7) (omega arith) (omega arith)
             (one 5 (n + 6) (omega arith) (omega arith)

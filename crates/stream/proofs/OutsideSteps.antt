@@ -172,7 +172,7 @@ module _ (m a z : ℕ) (o : SaysClosed m a z) (n : m ≡ 0 → ⊥) where
     alone : m ≡ held_number (status_in m)
     alone = omega (arith, (status_in_force m a z o n).number, h)
 
-    -- as the status v of the number is tested
+    -- v is the number's status, and t says whether it takes one data byte
     module _ (v : ℕ) (t : Bool) (is : v ≡ status_in m) (test : t ≡ eqb (data_length v) 1) where
       tested : eqb (data_length (status_in m)) 1 ≡ t
       tested = ap (λ (x : ℕ). eqb (data_length x) 1) (sym is) ∙ sym test
@@ -183,7 +183,7 @@ module _ (m a z : ℕ) (o : SaysClosed m a z) (n : m ≡ 0 → ⊥) where
       pub under_two : t ≡ false → Under m 2
       under_two e = (alone, omega (arith, takes_some, at_most_two (status_in m), eqb-false (data_length (status_in m)) 1 (tested ∙ e)))
 
--- what reports
+-- the bytes that report
 module _ (l : List ℕ) (free : FrontFree l) (m a b n : ℕ) (out : SaysClosed m a (get_or l 13 0)) (r : FedAnswer) (later : List ℕ) (store : List ℕ) where
   abbrev e : Decoder
   e = closed_by m a (get_or l 13 0)
@@ -216,7 +216,7 @@ module _ (l : List ℕ) (free : FrontFree l) (m a b n : ℕ) (out : SaysClosed m
         (message_some (status_in m) a b f.takes x.1 low)
         (t ∙ ap (λ (y : ℕ). numbers_of n false (message_report y a b)) is) (q ∙ ap (λ (y : ℕ). encoded (completed y a b)) is)
 
-    -- the only one
+    -- the only data byte of a message, under the number of its status
     pub only_ends : Under m 1 → r ≡ numbers_of n false (message_report (status_in m) b 0) → later ≡ encoded (completed (status_in m) b (get_or l 13 0)) →
         Answers e store b n r later store
     only_ends under t q =

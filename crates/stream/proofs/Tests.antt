@@ -19,7 +19,7 @@ limit_small = omega (arith, limit_is)
 pub realtime_high : (b : ℕ) → is_realtime b ≡ true → 0xF8 ≤ b
 realtime_high b t = leb-true 0xF8 b (both (leb 0xF8 b) _ t).0
 
--- FD and F9 alone are not named
+-- of F8 to FF, F9 and FD alone are no real-time message
 pub f9_or_fd : (b : ℕ) → 0xF8 ≤ b → b < 256 → is_realtime b ≡ false → (b ≡ 0xF9) ⊎ (b ≡ 0xFD)
 f9_or_fd b l small f =
     split (eqb b 0xF9) (λ t. inl (eqb-true b 0xF9 t))

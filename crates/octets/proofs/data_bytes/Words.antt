@@ -19,7 +19,7 @@ use Rattle.octets.proofs.data_bytes.Runs.{run_more, run_ends}
 top_of : (r : ℕ) → r < 256 → r / 128 % 2 * 128 ≡ r / 128 * 128
 top_of r byte = omega arith
 
--- one byte off a word and a mask
+-- a word and a mask, each with its lowest byte taken off
 off : (w m v n r : ℕ) → v ≡ w * 2 ^ 8 + r → n ≡ m * 2 ^ 8 + 128 → r < 256 → bit_and v n ≡ bit_and w m * 256 + r / 128 * 128
 off w m v n r p q byte =
     ap₂ bit_and p q ∙ and_block 8 w m r 128 byte (omega arith)
@@ -104,7 +104,7 @@ tops_read l i w bytes e =
     ap (λ (x : ℕ). bit_and x 0x8080_8080_8080_8080) e
     ∙ tops_left _ _ _ _ _ _ _ _ (bytes i) (bytes (i + 1)) (bytes (i + 2)) (bytes (i + 3)) (bytes (i + 4)) (bytes (i + 5)) (bytes (i + 6)) (bytes (i + 7))
 
--- eight bytes whose word has no top bit have none
+-- eight bytes have no top bit where the mask leaves nothing of their word
 pub no_tops : (l : List ℕ) (i w : ℕ) → ((k : ℕ) → get_or l k 0 < 256) → w ≡ word_at l i → bit_and w 0x8080_8080_8080_8080 ≡ 0 → top_bits_at l i ≡ 0
 no_tops l i w bytes e z = sym (tops_read l i w bytes e) ∙ z
 
@@ -116,7 +116,7 @@ chunk_at l (suc n) (suc w) h =
     let place : 8 + w * 8 ≡ suc w * 8 = omega arith in
     chunk_at (drop 8 l) n w (omega arith) ∙ ap (take 8) (drop-drop (w * 8) 8 l ∙ ap (λ (i : ℕ). drop i l) place)
 
--- and is the word there
+-- the word of chunk w is the word that stands at byte 8 * w of the list
 chunk_word : (l : List ℕ) (n w : ℕ) → w < n → word_at (get_or (first_chunks 8 n l) w []) 0 ≡ word_at l (w * 8)
 chunk_word l n w h =
     let start : w * 8 + 0 ≡ w * 8 = omega arith in

@@ -12,7 +12,7 @@ use Rattle.laws.specs.Tabulate.{tab}
 use Rattle.laws.specs.Window.{window}
 use Rattle.octets.specs.quick.Words.{word, word_at, put_word, octet}
 
--- a word's bytes again
+-- each of the eight bytes that make a word is read back from it
 module _ (a b c d e f g h : ℕ)
     (a₁ : a < 256) (b₁ : b < 256) (c₁ : c < 256) (d₁ : d < 256) (e₁ : e < 256) (f₁ : f < 256) (g₁ : g < 256) (h₁ : h < 256) where
   pub digit0 : word a b c d e f g h % 256 ≡ a
@@ -45,15 +45,15 @@ of_bytes : (l : List ℕ) (at : ℕ) → ((k : ℕ) → get_or l k 0 < 256) → 
     → P (get_or l at 0) (get_or l (at + 1) 0) (get_or l (at + 2) 0) (get_or l (at + 3) 0) (get_or l (at + 4) 0) (get_or l (at + 5) 0) (get_or l (at + 6) 0) (get_or l (at + 7) 0)
 of_bytes l at bytes law = law _ _ _ _ _ _ _ _ (bytes at) (bytes (at + 1)) (bytes (at + 2)) (bytes (at + 3)) (bytes (at + 4)) (bytes (at + 5)) (bytes (at + 6)) (bytes (at + 7))
 
--- a word that was read, stored
-pub word_stored : (from l : List ℕ) (i j w : ℕ) → ((k : ℕ) → get_or from k 0 < 256) → w ≡ word_at from i
+-- a word that was read from one list and is stored in another stores its eight bytes there
+pub word_copied : (from l : List ℕ) (i j w : ℕ) → ((k : ℕ) → get_or from k 0 < 256) → w ≡ word_at from i
     → put_word w l j ≡ set
     (set
     (set (set (set (set (set (set l j (get_or from i 0)) (j + 1) (get_or from (i + 1) 0)) (j + 2) (get_or from (i + 2) 0)) (j + 3) (get_or from (i + 3) 0))
     (j + 4) (get_or from (i + 4) 0)) (j + 5) (get_or from (i + 5) 0))
     (j + 6) (get_or from (i + 6) 0))
     (j + 7) (get_or from (i + 7) 0)
-word_stored from l i j w bytes e =
+word_copied from l i j w bytes e =
     ap (λ (x : ℕ). put_word x l j) e
     ∙ rw (
       of_bytes from i bytes digit0,

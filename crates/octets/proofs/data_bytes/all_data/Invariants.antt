@@ -1,3 +1,4 @@
+-- The loop of `all_data`: the bytes so far, joined bit by bit, have no top bit exactly if all of them belong to the run.
 use Rattle.octets.specs.quick.Data.{data_run}
 use lib.Dec.{ltb, leb}
 use mathlib.Core.Path.{◌≡◌}

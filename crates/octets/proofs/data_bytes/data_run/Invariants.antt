@@ -1,3 +1,4 @@
+-- The loop of `data_run` has seen data bytes alone ahead of byte i, so they belong to the run.
 use Rattle.octets.specs.quick.Data.{data_run}
 use Prim.Native.Nat.{◌≤◌}
 use Rattle.octets.proofs.data_bytes.data_run.Given as goal

@@ -1,4 +1,5 @@
--- `pack_group` meets its contract as `pack_last` does: after i turns i raw bytes are in place and their top bits gathered.
+-- `pack_group` meets its contract: after i turns i raw bytes are in place and their top bits gathered, and the top bits of all seven, stored
+-- ahead of them, make the group whole.
 use Rattle.packed.proofs.Groups.{packing_none, packing_more, packing_done}
 use native.Mathlib.Omega.{arith}
 use Prim.Native.Nat.{◌+◌}

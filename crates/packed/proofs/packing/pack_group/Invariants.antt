@@ -1,3 +1,4 @@
+-- The loop of `pack_group` has written the low seven bits of the first i raw bytes and gathered their top bits.
 use Rattle.packed.proofs.Groups.{Packing}
 use Rattle.packed.proofs.packing.pack_group.Given as goal
 

@@ -1,3 +1,4 @@
+-- The loop of `pack_groups` has written the first g groups to the front of `out`.
 use Rattle.packed.specs.Packed.{packed_byte}
 use Rattle.laws.specs.Window.{window}
 use Rattle.laws.specs.Tabulate.{tab}

@@ -1,3 +1,4 @@
+-- The loop of `pack_last` has taken out the first i raw bytes of the group.
 use lib.ListN.{length, get_or}
 use Prim.Native.Nat.{ℕ, ◌+◌, ◌<◌}
 use mathlib.Core.Path.{◌≡◌}

@@ -1,3 +1,4 @@
+-- The loop of `unpack_group` has written the first i raw bytes of the group to its place in `out`.
 use Rattle.packed.specs.Packed.{raw_byte}
 use Rattle.laws.specs.Window.{window}
 use Rattle.laws.specs.Tabulate.{tab}

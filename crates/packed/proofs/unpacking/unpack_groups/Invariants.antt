@@ -1,3 +1,4 @@
+-- The loop of `unpack_groups` has written the raw bytes of the first g groups to the front of `out`.
 use Rattle.packed.specs.Packed.{unpacked_byte}
 use Rattle.laws.specs.Window.{window}
 use Rattle.laws.specs.Tabulate.{tab}
