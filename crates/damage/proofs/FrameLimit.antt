@@ -61,13 +61,13 @@ unfolding meaning heard class_of
 begun ys = refl
 
 -- F7 behind F0 and data bytes
-end_fits : (xs : List ℕ) → length xs + 2 ≤ limit → heard 0xF0 xs 0xF7 ≡ gives (frame (0xF0 ∷ xs ++ (0xF7 ∷ []))) ∷ []
+end_heard : (xs : List ℕ) → length xs + 2 ≤ limit → heard 0xF0 xs 0xF7 ≡ gives (frame (0xF0 ∷ xs ++ (0xF7 ∷ []))) ∷ []
 unfolding heard class_of
-end_fits xs h = rw (lt-ltb (length xs) limit (omega arith), le-leb (length xs + 2) limit h)
+end_heard xs h = rw (lt-ltb (length xs) limit (omega arith), le-leb (length xs + 2) limit h)
 
-end_beyond : (xs : List ℕ) → length xs + 1 ≡ limit → heard 0xF0 xs 0xF7 ≡ report19 ∷ []
+end_beyond_heard : (xs : List ℕ) → length xs + 1 ≡ limit → heard 0xF0 xs 0xF7 ≡ report19 ∷ []
 unfolding heard class_of
-end_beyond xs h = rw (lt-ltb (length xs) limit (omega arith), lt-leb (length xs + 2) limit (omega arith))
+end_beyond_heard xs h = rw (lt-ltb (length xs) limit (omega arith), lt-leb (length xs + 2) limit (omega arith))
 
 module _ (xs : List ℕ) (ok : seven_bit xs ≡ true) where
   -- behind F0 and data bytes the last status byte is F0, and the data are those bytes
@@ -96,7 +96,7 @@ module _ (xs : List ℕ) (ok : seven_bit xs ≡ true) where
   two_fewer e =
       front_quiet (omega arith) (0xF7 ∷ [])
       ∙ ap (λ (l : List (List Reported)). nothing_reported (suc (length xs)) ++ l)
-      (heard_behind 0xF7 [] ∙ ap (λ (x : List Reported). x ∷ []) (end_fits xs (omega arith)))
+      (heard_behind 0xF7 [] ∙ ap (λ (x : List Reported). x ∷ []) (end_heard xs (omega arith)))
 
   -- the limit less 1 data bytes: the frame is open at the next byte, and F7 drops it with 19
   pub one_fewer : length xs + 1 ≡ limit
@@ -105,7 +105,7 @@ module _ (xs : List ℕ) (ok : seven_bit xs ≡ true) where
   one_fewer e = (
     rw (status_is, data_is, lt-ltb (length xs) limit (omega arith)),
     front_quiet (omega arith) (0xF7 ∷ [])
-        ∙ ap (λ (l : List (List Reported)). nothing_reported (suc (length xs)) ++ l) (heard_behind 0xF7 [] ∙ ap (λ (x : List Reported). x ∷ []) (end_beyond xs e)),
+        ∙ ap (λ (l : List (List Reported)). nothing_reported (suc (length xs)) ++ l) (heard_behind 0xF7 [] ∙ ap (λ (x : List Reported). x ∷ []) (end_beyond_heard xs e)),
   )
 
   -- as many data bytes as the limit: the last of them drops the frame with 19, no frame is open any more, and further data bytes are ignored

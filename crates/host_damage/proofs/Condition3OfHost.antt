@@ -29,8 +29,8 @@ use Rattle.host_damage.proofs.Named.{walk_named}
 use Rattle.host_damage.proofs.NumbersTold.{numbers_told, numbers_counted}
 
 -- a sound state's length fits its eight bytes
-fits : (d : Decoder) → sound d ≡ true → d.len < 2 ^ 64
-fits d h =
+sound_length_fits : (d : Decoder) → sound d ≡ true → d.len < 2 ^ 64
+sound_length_fits d h =
     split d.in_sysex
     (λ (e : d.in_sysex ≡ true). let o = open_part d h e in omega (arith, o.fits, limit_is))
     (λ (e : d.in_sysex ≡ false). omega (arith, (closed_part d h e).0))
@@ -39,7 +39,7 @@ fits d h =
 same_call : (d : Decoder) (store bytes : List ℕ) → sound d ≡ true → feed_call (encoded d) store bytes ≡ call d store bytes
 same_call d store bytes h =
     ap (λ (t : Bool). unless t 20 [] (call (state_of (encoded d)) store bytes)) (encoded_is_state d)
-    ∙ ap (λ (e : Decoder). call e store bytes) (state_read_back d (fits d h))
+    ∙ ap (λ (e : Decoder). call e store bytes) (state_read_back d (sound_length_fits d h))
 
 module _ (d : Decoder) (store bytes : List ℕ) (answer : FedAnswer) (next left : List ℕ) where
   abbrev Is : Outcome Walked → Type 0

@@ -26,12 +26,12 @@ low : (k c : ℕ) → c < 16 → (k * 16 + c) % 16 ≡ c
 low k c h = omega arith
 
 -- the numbers of a report
-abbrev numbers : Report → FedAnswer
-numbers z = numbers_of 0 false (Some z)
+abbrev report_numbers : Report → FedAnswer
+report_numbers z = numbers_of 0 false (Some z)
 
 -- a channel message by its status byte and two numbers
 channel_numbers_told : (c : Channel) (z : ChannelMessage) → c.0 < 16
-    → channel_read (numbers (r.Channel c z)).status (numbers (r.Channel c z)).first (numbers (r.Channel c z)).second ≡ gives (channel c z)
+    → channel_read (report_numbers (r.Channel c z)).status (report_numbers (r.Channel c z)).first (report_numbers (r.Channel c z)).second ≡ gives (channel c z)
 channel_numbers_told c (x.NoteOff a b) h = rw (kind 0x8 c.0 h, low 0x8 c.0 h)
 channel_numbers_told c (x.NoteOn a b) h = rw (kind 0x9 c.0 h, low 0x9 c.0 h)
 channel_numbers_told c (x.PolyKeyPressure a b) h = rw (kind 0xA c.0 h, low 0xA c.0 h)
@@ -42,7 +42,7 @@ channel_numbers_told c (x.PitchBend a) h = rw (kind 0xE c.0 h, low 0xE c.0 h)
 
 -- any report by its numbers
 report_told : (store : List ℕ) (z : Report) → NamedReport z
-    → report_read store (numbers z).kind (numbers z).status (numbers z).first (numbers z).second ≡ told store z ∷ []
+    → report_read store (report_numbers z).kind (report_numbers z).status (report_numbers z).first (report_numbers z).second ≡ told store z ∷ []
 report_told store (r.Channel c z) n = ap (λ (x : Reported). x ∷ []) (channel_numbers_told c z n)
 report_told store (r.SysEx k) n = refl
 report_told store (r.Common (y.TimeCodeQuarterFrame v)) n = refl

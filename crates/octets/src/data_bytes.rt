@@ -20,7 +20,7 @@ fn data_words(bytes: &[u8]) -> usize
 
 // How many data bytes stand ahead of the first other byte.
 // `position` was tried, and looks at one byte a turn: 12 ns for 24 bytes and 122 ns for 242, where this takes 4 and 16.
-#[tactic(auto, using(crate::proofs::data_bytes::Runs::run_within, crate::proofs::data_bytes::Runs::run_more, crate::proofs::data_bytes::Runs::run_ends))]
+#[tactic(auto, using(crate::proofs::data_bytes::Runs::run_no_longer, crate::proofs::data_bytes::Runs::run_more, crate::proofs::data_bytes::Runs::run_ends))]
 pub fn data_run(bytes: &[u8]) -> usize
     ensures { result ≡ data_run bytes.now }
 {

@@ -30,7 +30,7 @@ use Rattle.stream.specs.quick.Bytes.{is_realtime, held_number, put_middle, open_
 use Rattle.stream.specs.quick.Going.{Answers, MiddleFree}
 use Rattle.stream.proofs.Told.{realtime_told}
 use Rattle.stream.proofs.Tests.{realtime_high}
-use Rattle.stream.proofs.Stores.{open_stored, closed_stored, held_stored}
+use Rattle.stream.proofs.Stores.{open_stored, closed_stored, status_stored}
 
 -- a byte that reports, by its class
 pub answers_by : (c : Class) (d : Decoder) (store : List ℕ) (b n : ℕ) (r : FedAnswer) (later left : List ℕ) → class_of b ≡ c → (x : Stepped) (kept : List ℕ) → x ≡ step_in c d b
@@ -67,7 +67,7 @@ module _ (l : List ℕ) (free : MiddleFree l) (at : ℕ) (store : List ℕ) (b n
       → Answers d store b n r later left
   held_answers low high not t e q =
       answers_by k.Held d store b n r later left (class_is b k.Held (low, high, not)) (record { state = holding d b; interrupted = true; report = None }) store refl refl refl t
-      (e ∙ held_stored l free at b (omega arith)) q
+      (e ∙ status_stored l free at b (omega arith)) q
 
   -- F4 and F5 break the frame off and clear the status
   pub undefined_answers : 0xF4 ≤ b → b < 0xF6 → r ≡ numbers_of n true None → later ≡ put_word 0 l 0 → left ≡ store → Answers d store b n r later left

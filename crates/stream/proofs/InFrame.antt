@@ -11,7 +11,7 @@ use lib.Seq.{get_or-drop, length-take-le}
 use Rattle.laws.specs.Window.{window}
 use Rattle.laws.proofs.Window.{length_window}
 use Rattle.octets.specs.quick.Data.{data_run}
-use Rattle.octets.proofs.data_bytes.Runs.{run_within, run_more}
+use Rattle.octets.proofs.data_bytes.Runs.{run_no_longer, run_more}
 use Rattle.decoder.specs.declared.Decoder.{Decoder}
 use Rattle.decoder.specs.declared.Class.TheVariants as k
 use Rattle.decoder.specs.State.{limit}
@@ -48,7 +48,7 @@ module _ {w : Walked} {state₀ store₀ bytes state store : List ℕ} {at used 
 
   behind_run : InFrame w state₀ store₀ bytes state kept (at + n) (used + n)
   behind_run =
-      let shorter : n ≤ length (drop used bytes) = omega (arith, n-is, run_within (drop used bytes)) in
+      let shorter : n ≤ length (drop used bytes) = omega (arith, n-is, run_no_longer (drop used bytes)) in
       let taken : length (take n (drop used bytes)) ≡ n = length-take-le n (drop used bytes) shorter in
       let same_length : length kept ≡ length store = ap length kept-is ∙ length_window store at (take n (drop used bytes)) (omega (arith, taken, run_fits, i.room)) in
       record {

@@ -14,7 +14,7 @@ use Rattle.laws.proofs.Window.{window_more, window_front, lent_window}
 use Rattle.octets.specs.quick.Words.{word_at, put_word}
 use Rattle.octets.proofs.words.Words.{word_copied}
 use Rattle.octets.specs.quick.Data.{data_run}
-use Rattle.octets.proofs.data_bytes.Runs.{run_within, run_more, run_take}
+use Rattle.octets.proofs.data_bytes.Runs.{run_no_longer, run_more, run_take}
 use Rattle.octets.proofs.data_bytes.Words.{word_more, no_tops}
 use Rattle.decoder.specs.State.{limit}
 use Rattle.stream.specs.quick.Going.{Copied, RunMoved}
@@ -66,7 +66,7 @@ pub run_moved_there : (full at used most n : ℕ) (store bytes new : List ℕ) �
 run_moved_there full at used most n store bytes new whole room fits within most-is n-is new-is =
     let xs : List ℕ = drop used bytes in
     let long : length xs ≡ length bytes - used = length-drop used bytes in
-    let all : n ≡ min (limit - at) (data_run xs) = omega (arith, n-is, run_take xs most, most-is, long, run_within xs) in
+    let all : n ≡ min (limit - at) (data_run xs) = omega (arith, n-is, run_take xs most, most-is, long, run_no_longer xs) in
     let same : take n (take most xs) ≡ take n xs = take-take n most xs (omega (arith, n-is, run_take xs most)) in
     let part : ℕ → List ℕ = λ (f : ℕ). take (f - at) (drop at store) in
     let new-at : new ≡ window (part (length store)) 0 (take n (take most xs)) = new-is ∙ ap (λ (f : ℕ). window (part f) 0 (take n (take most xs))) whole in

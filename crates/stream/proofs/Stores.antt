@@ -100,8 +100,8 @@ module _ (l : List ℕ) (free : MiddleFree l) where
   closed_stored n = ap (λ (x : List ℕ). put_word 0 x 0) (middle_known l free)
 
   -- 0 and a status's number leave no frame, and the status
-  pub held_stored : (n b : ℕ) → b < 256 → put_middle (held_number b) (put_word 0 l 0) ≡ encoded (holding (open_state n l) b)
-  held_stored n b small =
+  pub status_stored : (n b : ℕ) → b < 256 → put_middle (held_number b) (put_word 0 l 0) ≡ encoded (holding (open_state n l) b)
+  status_stored n b small =
       let d = four_stored (held_number b) 1 b 0 (omega arith) small (omega arith) (omega arith) in
       ap (λ (x : List ℕ). put_middle (held_number b) (put_word 0 x 0)) (middle_known l free) ∙ rw (d.0, d.1, d.2, d.3) refl
 

@@ -12,7 +12,7 @@ use lib.ListN.{length, take, drop, get_or, length-drop, drop_of_length-le}
 use lib.Seq.{drop-cons, drop-drop}
 use Rattle.laws.specs.Window.{window}
 use Rattle.octets.specs.quick.Data.{data_run}
-use Rattle.octets.proofs.data_bytes.Runs.{run_within}
+use Rattle.octets.proofs.data_bytes.Runs.{run_no_longer}
 use Rattle.decoder.specs.declared.Decoder.{Decoder}
 use Rattle.decoder.specs.State.{limit}
 use Rattle.decoder.specs.Step.{step, stored, silent}
@@ -57,7 +57,7 @@ module _ (w : Walked) (bytes : List ℕ) (d : Decoder) (store : List ℕ) (used 
   pub on_stray : d.in_sysex ≡ false → d.status ≡ None → (n : ℕ) → n ≤ data_run (drop used bytes) → WalkedTo w bytes d store (used + n)
   on_stray p q n h =
       record {
-        within = omega (arith, on.within, h, run_within (drop used bytes), length-drop used bytes);
+        within = omega (arith, on.within, h, run_no_longer (drop used bytes), length-drop used bytes);
         rest = on.rest ∙ ap (further used) (stray_run n d store (drop used bytes) p q h) ∙ more_further used n _
             ∙ ap (λ (l : List ℕ). further (used + n) (walk d store l)) (drop-drop n used bytes);
       }
@@ -88,7 +88,7 @@ pub on_run : (w : Walked) (bytes : List ℕ) (at a z : ℕ) (store : List ℕ) (
     → (n : ℕ) → n ≡ min (limit - at) (data_run (drop used bytes)) → WalkedTo w bytes (open_frame (at + n) a z) (window store at (take n (drop used bytes))) (used + n)
 on_run w bytes at a z store used on fits room n e =
     record {
-      within = omega (arith, on.within, e, run_within (drop used bytes), length-drop used bytes);
+      within = omega (arith, on.within, e, run_no_longer (drop used bytes), length-drop used bytes);
       rest = on.rest ∙ ap (further used) (frame_run n at a z store (drop used bytes) (omega (arith, e)) (omega (arith, e, fits)) room) ∙ more_further used n _
           ∙ ap (λ (l : List ℕ). further (used + n) (walk (open_frame (at + n) a z) (window store at (take n (drop used bytes))) l)) (drop-drop n used bytes);
     }

@@ -30,7 +30,7 @@ fn moved_words(from: &[u8], to: &mut [u8]) -> usize
 }
 
 // Copies the data bytes ahead of the first other byte to the front of a buffer. Answers how many. The two slices stay two: a struct would be made of them and taken apart again.
-#[tactic(auto, using(octets::proofs::data_bytes::Runs::run_ends, octets::proofs::data_bytes::Runs::run_within))]
+#[tactic(auto, using(octets::proofs::data_bytes::Runs::run_ends, octets::proofs::data_bytes::Runs::run_no_longer))]
 fn moved_run(from: &[u8], to: &mut [u8]) -> usize
     requires { length from.now ≤ length to.old }
     ensures { Copied result from.now to.old to.new × (result ≡ data_run from.now) }

@@ -29,9 +29,9 @@ by_byte b l f g =
     split (ltb b 0x80) (λ t. f (ltb-true b 0x80 t) (run_data b l (ltb-true b 0x80 t)))
     (λ t. g (ltb-false b 0x80 t) (run_other b l (ltb-false b 0x80 t)))
 
-pub run_within : (l : List ℕ) → data_run l ≤ length l
-run_within [] = omega (arith, run_none)
-run_within (b ∷ l) = by_byte b l (λ _ e. omega (arith, e, run_within l)) (λ _ e. omega (arith, e))
+pub run_no_longer : (l : List ℕ) → data_run l ≤ length l
+run_no_longer [] = omega (arith, run_none)
+run_no_longer (b ∷ l) = by_byte b l (λ _ e. omega (arith, e, run_no_longer l)) (λ _ e. omega (arith, e))
 
 -- every byte within the run is a data byte
 pub run_below : (l : List ℕ) (i : ℕ) → i < data_run l → get_or l i 0 < 0x80
