@@ -1,5 +1,5 @@
--- All promises hold of any caller whose calls report what history says, because condition 3 is what history says of all that arrives, and it
--- leaves no untouched message out.
+-- All promises hold of any caller whose calls report what history says, because what history says of all that arrives is what condition 3 asks
+-- for, and in that no untouched message is missing.
 use Rattle.damage.specs.Caller.{Caller}
 use Rattle.damage.specs.Meaning.{CallsMean}
 use Rattle.damage.specs.Promises.{Promises}

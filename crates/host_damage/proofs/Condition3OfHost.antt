@@ -42,10 +42,10 @@ same_call d store bytes h =
     ∙ ap (λ (e : Decoder). call e store bytes) (state_read_back d (sound_length_fits d h))
 
 module _ (d : Decoder) (store bytes : List ℕ) (answer : FedAnswer) (next left : List ℕ) where
-  abbrev Is : Outcome Walked → Type 0
-  Is o = StreamFed o answer (encoded d) next store left → IsCall numbers_count numbers_tell encoded o d store answer next left
+  abbrev FedIsCall : Outcome Walked → Type 0
+  FedIsCall o = StreamFed o answer (encoded d) next store left → IsCall numbers_count numbers_tell encoded o d store answer next left
 
-  fed_is : Is (gives (walk d store bytes))
+  fed_is : FedIsCall (gives (walk d store bytes))
   fed_is met =
       let w = walk d store bytes in
       let f = w.fed in
@@ -56,7 +56,7 @@ module _ (d : Decoder) (store bytes : List ℕ) (answer : FedAnswer) (next left 
         store_is = met.leaves;
       }
 
-  refused_is : Is (refused 20 [])
+  refused_is : FedIsCall (refused 20 [])
   refused_is met =
       record {
         count = ap numbers_count met.answers;
@@ -68,7 +68,7 @@ module _ (d : Decoder) (store bytes : List ℕ) (answer : FedAnswer) (next left 
   is_call : sound d ≡ true → StreamFed (feed_call (encoded d) store bytes) answer (encoded d) next store left
       → IsCall numbers_count numbers_tell encoded (call d store bytes) d store answer next left
   is_call ok met =
-      split {P = Is (call d store bytes)} (ready d store) (λ t. rw t fed_is) (λ t. rw t refused_is)
+      split {P = FedIsCall (call d store bytes)} (ready d store) (λ t. rw t fed_is) (λ t. rw t refused_is)
       (subst (λ (o : Outcome Walked). StreamFed o answer (encoded d) next store left) (same_call d store bytes ok) met)
 
 abbrev thin : Thin by_host.Contract by_host.used by_host.tells

@@ -12,7 +12,7 @@ ghost use Rattle.stream.specs.quick.Bytes.{is_realtime};
 use crate::{CHANNEL, COMMON, FedAnswer, NOTHING, REALTIME, SYSEX};
 use decoder::MAX_SYSEX_LEN;
 
-// An answer with one report, and no report 18 ahead of it. The count of used bytes is cast, since no From leads from usize to u64.
+// An answer by its numbers, with no report 18 ahead. The count of used bytes is cast, since no From leads from usize to u64.
 fn from_numbers(used: usize, kind: u64, status: u64, first: u64, second: u64) -> FedAnswer
     ensures { result ≡ record { number = 0; used = used; interrupted = 0; kind = kind; status = status; first = first; second = second } }
 {
