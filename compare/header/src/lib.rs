@@ -5,7 +5,7 @@ mod rattle;
 
 use std::collections::BTreeMap;
 
-/// What crosses the boundary, with its width.
+/// What crosses to C, with its width.
 #[derive(Debug, Clone, PartialEq, Eq)]
 pub enum Type {
     /// An unsigned number of so many bits.

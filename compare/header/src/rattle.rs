@@ -118,9 +118,9 @@ pub fn engine(sources: &[(String, String)]) -> Side {
             "another form of export in {name}"
         );
         records(&text, "#[repr(C)]", &mut side);
-        let at_the_boundary = name.starts_with("host") || name == "stream" || name == "held_keys::bytes";
+        let crosses_to_c = name.starts_with("host") || name == "stream" || name == "held_keys::bytes";
         for (constant, value) in constants(&text) {
-            let into = if at_the_boundary { &mut side.constants } else { &mut side.others };
+            let into = if crosses_to_c { &mut side.constants } else { &mut side.others };
             if into.insert(constant.clone(), value).is_some_and(|before| before != value) {
                 twice.insert(constant);
             }

@@ -1,4 +1,4 @@
-// The command table.
+// Exports dm_command, the entry point of the 22 command bytes.
 ghost use Rattle.std.specs.Prelude.{◌≡◌};
 ghost use Rattle.refusal.specs.Outcome.{gives, and_then};
 ghost use Rattle.command.specs.Command.{command_of, code_of};

@@ -1,4 +1,4 @@
-// Frames.
+// Exports dm_frame_read, dm_frame_len and dm_frame_write, the entry points of frames.
 ghost use Rattle.frame_reader.specs.Reader.{read_record};
 ghost use Rattle.host_answer.specs.Answer.{answer_of, no_record};
 ghost use Rattle.host_frames.specs.Frames.{read_answer};

@@ -1,4 +1,4 @@
-// The record of held keys.
+// Exports dm_held_fresh, dm_held_apply, dm_held_count and dm_held_first, the entry points of the held-key record.
 ghost use Rattle.std.specs.Prelude.{◌≡◌};
 ghost use Rattle.host_answer.specs.Answer.{answer_of, Sends};
 ghost use Rattle.wire.specs.ChannelMessage.{channel_kind};

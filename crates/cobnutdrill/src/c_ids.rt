@@ -1,4 +1,4 @@
-// Small numbers.
+// Exports dm_bank, dm_program, dm_pattern, dm_version, dm_program_data_len, dm_device and dm_interface, the entry points of the small numbers.
 ghost use Rattle.std.specs.Prelude.{◌≡◌};
 ghost use Rattle.ids.specs.Interface.{interface_of, interface_byte};
 ghost use Rattle.ids.specs.Device.{device_of, device_byte};

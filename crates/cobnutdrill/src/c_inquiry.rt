@@ -1,4 +1,4 @@
-// Identity requests and replies.
+// Exports dm_request_read, dm_reply_read, dm_request_write and dm_reply_write, the entry points of identity requests and replies.
 ghost use Rattle.std.specs.Prelude.{◌≡◌, leb, length};
 ghost use Rattle.host_answer.specs.Answer.{SendsIf};
 ghost use Rattle.inquiry.specs.Request.{read_request};

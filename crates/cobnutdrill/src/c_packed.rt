@@ -1,4 +1,4 @@
-// Packed runs.
+// Exports dm_packed_len, dm_unpacked_len, dm_pack and dm_unpack, the entry points of packed runs.
 ghost use Rattle.std.specs.Prelude.{◌≡◌, length};
 ghost use Rattle.packed.specs.Packed.{packed_length_of, unpacked_length_of, pack_write, unpack_write};
 ghost use Rattle.host_answer.specs.Answer.{answer_of, Sends};

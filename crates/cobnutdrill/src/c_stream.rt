@@ -1,4 +1,4 @@
-// The stream decoder.
+// Exports dm_feed, dm_capacity, dm_fresh, dm_reset and dm_in_sysex, the entry points of the stream decoder.
 ghost use Rattle.std.specs.Prelude.{◌≡◌};
 ghost use Rattle.decoder.specs.State.{limit, fresh};
 ghost use Rattle.host_answer.specs.Answer.{answer_of, Sends};

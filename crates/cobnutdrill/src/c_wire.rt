@@ -1,4 +1,5 @@
-// Channel, common and real-time messages.
+// Exports dm_data_len, dm_realtime, dm_channel_write, dm_common_write, dm_realtime_write and dm_channel, the entry points of channels and of
+// channel, common and real-time messages.
 ghost use Rattle.std.specs.Prelude.{◌≡◌};
 ghost use Rattle.refusal.specs.Outcome.{gives, and_then};
 ghost use Rattle.wire.specs.Channel.{channel_of};

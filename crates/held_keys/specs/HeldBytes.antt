@@ -1,4 +1,4 @@
--- The held keys at the boundary: 256 bytes, 16 for each channel. Key k of channel c is bit k % 8 of byte 16 * c + k / 8.
+-- The held keys as they cross to C: 256 bytes, 16 for each channel. Key k of channel c is bit k % 8 of byte 16 * c + k / 8.
 use Rattle.std.specs.Prelude.{Bool, List, ℕ, ◌+◌, ◌*◌, ◌/◌, ◌%◌, get_or}
 use Rattle.laws.specs.Tabulate.{tab}
 use Rattle.held_keys.specs.HeldKeys.{bit, is_held}

@@ -1,4 +1,4 @@
--- A device at the boundary: everyone (0 or 1) and the unit, since a hand-made unit 7F is not everyone.
+-- A device as it crosses to C: everyone (0 or 1) and the unit, since a hand-made unit 7F is not everyone.
 use Rattle.std.specs.Prelude.{ℕ, eqb, leb, None, Option, Some}
 use Rattle.laws.specs.Choice.{pick}
 use Rattle.ids.specs.declared.device.DeviceId.{DeviceId}

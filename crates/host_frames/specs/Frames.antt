@@ -1,4 +1,4 @@
--- Frames at the boundary: every field a plain number, the run by its place in the caller's bytes.
+-- Frames that were read, as they cross to C: every field a plain number, the run by its place in the caller's bytes.
 use Rattle.std.specs.Prelude.{List, ℕ, ◌≤◌, ◌<◌, length, get_or}
 use Rattle.refusal.specs.Outcome.{Outcome, gives, refused}
 use Rattle.ids.specs.declared.device.DeviceId.{DeviceId}

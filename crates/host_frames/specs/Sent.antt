@@ -1,4 +1,4 @@
--- Frames to be written, at the boundary: every field a plain number.
+-- Frames to be written, as they cross from C: every field a plain number.
 use Rattle.std.specs.Prelude.{Bool, ◌&&◌, ◌||◌, not, List, ℕ, leb, eqb, length}
 use Rattle.refusal.specs.Outcome.{Outcome, and_then}
 use Rattle.command.specs.Command.{command_of}

@@ -1,4 +1,4 @@
--- The held keys at the boundary: 256 bytes that the caller keeps. "A channel of 16 or more gets 17, the record unchanged"; 20 for another length.
+-- The held keys as they cross to C: 256 bytes that the caller keeps. "A channel of 16 or more gets 17, the record unchanged"; 20 for another length.
 use Rattle.std.specs.Prelude.{◌≡◌, Bool, List, [], ℕ, eqb, ltb, length, replicate, None, Option, Some}
 use Rattle.laws.specs.Choice.{pick}
 use Rattle.refusal.specs.Outcome.{Outcome, gives, refused, unless}

@@ -1,4 +1,4 @@
--- The inquiry's messages at the boundary: what a request or a reply tells, in plain numbers.
+-- The inquiry's messages as they cross to C: what a request or a reply tells, in plain numbers.
 use Rattle.std.specs.Prelude.{List, ℕ, leb, length, get_or}
 use Rattle.refusal.specs.Outcome.{Outcome, gives, refused}
 use Rattle.ids.specs.declared.device.DeviceId.{DeviceId}

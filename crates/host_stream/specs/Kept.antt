@@ -1,4 +1,4 @@
--- The decoder's state at the boundary: written to the bytes that keep it, and what it tells.
+-- The decoder's state as it crosses to C: written to the bytes that keep it, and what it tells.
 use Rattle.std.specs.Prelude.{List, [], ℕ, eqb, length}
 use Rattle.refusal.specs.Outcome.{Outcome, gives, unless}
 use Rattle.decoder.specs.declared.Decoder.{Decoder}

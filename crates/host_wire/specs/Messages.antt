@@ -1,4 +1,4 @@
--- Messages at the boundary: a kind that no record names gets an answer of its own, and nothing is written.
+-- Messages as they cross to C: a kind that no record names gets an answer of its own, and nothing is written.
 use Rattle.std.specs.Prelude.{List, ℕ, length, None, Option, Some}
 use Rattle.refusal.specs.Outcome.{gives}
 use Rattle.wire.specs.ChannelMessage.{channel_write}
