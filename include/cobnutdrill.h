@@ -76,47 +76,47 @@ typedef struct dm_answer {
     uint64_t detail3;
 } dm_answer;
 
-/* ---- Small numbers: value is the number inside ------------------------------------------------------------------------------ */
+/* ---- Small numbers --------------------------------------------------------------------------------------------------------------------- */
 
-/* 0 to 7. Refuses DM_BANK_OUT_OF_RANGE. */
+/* value: the bank that the byte names, 0 to 7. Refuses DM_BANK_OUT_OF_RANGE for any other byte. */
 dm_answer dm_bank(uint8_t byte);
 
-/* 0 to 127. Refuses DM_PROGRAM_OUT_OF_RANGE. */
+/* value: the program that the byte names, 0 to 127. Refuses DM_PROGRAM_OUT_OF_RANGE for any other byte. */
 dm_answer dm_program(uint8_t byte);
 
-/* 0 to 31. Refuses DM_PATTERN_OUT_OF_RANGE. */
+/* value: the pattern that the byte names, 0 to 31. Refuses DM_PATTERN_OUT_OF_RANGE for any other byte. */
 dm_answer dm_pattern(uint8_t byte);
 
-/* 6 or 7. Refuses DM_UNSUPPORTED_PROTOCOL_VERSION. */
+/* value: the protocol version that the byte names, 6 or 7. Refuses DM_UNSUPPORTED_PROTOCOL_VERSION for any other byte. */
 dm_answer dm_version(uint8_t byte);
 
-/* How many bytes of program data a dump of this version holds. Refuses DM_UNSUPPORTED_PROTOCOL_VERSION. */
+/* value: how many raw bytes a program dump of this protocol version holds. Refuses DM_UNSUPPORTED_PROTOCOL_VERSION for a byte other than 6 and 7. */
 dm_answer dm_program_data_len(uint8_t byte);
 
-/* A device byte: 0 to 15 for a unit, 127 for everyone. Refuses DM_INVALID_DEVICE_ID. */
+/* value: the device byte itself, 0 to 15 for a unit, 127 for everyone. Refuses DM_INVALID_DEVICE_ID for any other byte. */
 dm_answer dm_device(uint8_t byte);
 
-/* 0 to 15. Refuses DM_CHANNEL_OUT_OF_RANGE. */
+/* value: the channel that the byte names, 0 to 15. Refuses DM_CHANNEL_OUT_OF_RANGE for any other byte. */
 dm_answer dm_channel(uint8_t byte);
 
-/* 0 the sockets, 1 USB, 2 Wi-Fi. Refuses DM_INVALID_INTERFACE. */
+/* value: the interface that the byte names, 0 the sockets, 1 USB, 2 Wi-Fi. Refuses DM_INVALID_INTERFACE for any other byte. */
 dm_answer dm_interface(uint8_t byte);
 
-/* One of the 22 command bytes. Refuses DM_UNKNOWN_COMMAND. */
+/* value: the byte, where it is one of the 22 command bytes. Refuses DM_UNKNOWN_COMMAND for any other byte. */
 dm_answer dm_command(uint8_t byte);
 
 /* ---- Packed runs: seven raw bytes in eight bytes below 80 ----------------------------------------------------------------------- */
 
-/* value: the packed length of n raw bytes. Refuses DM_LENGTH_OVERFLOW. */
+/* value: how many bytes n raw bytes take when they are packed. Refuses DM_LENGTH_OVERFLOW where that is 2 to the 64th or more. */
 dm_answer dm_packed_len(size_t n);
 
-/* value: the raw length of n packed bytes. Refuses DM_PACKED_RUN_LENGTH. */
+/* value: how many raw bytes n packed bytes hold. Refuses DM_PACKED_RUN_LENGTH for a length that leaves 1 when divided by 8. */
 dm_answer dm_unpacked_len(size_t n);
 
-/* Packs raw into out. value: the count written. Refuses DM_LENGTH_OVERFLOW, DM_BUFFER_TOO_SMALL. */
+/* Packs raw into out, the last group filled with 00. value: the count written. Refuses DM_LENGTH_OVERFLOW, DM_BUFFER_TOO_SMALL. */
 dm_answer dm_pack(const uint8_t *raw, size_t raw_len, uint8_t *out, size_t out_len);
 
-/* Unpacks run into out. value: the count written. Refuses DM_PACKED_RUN_LENGTH, DM_BUFFER_TOO_SMALL. */
+/* Unpacks run into out; top bits of its data bytes are ignored. value: the count written. Refuses DM_PACKED_RUN_LENGTH, DM_BUFFER_TOO_SMALL. */
 dm_answer dm_unpack(const uint8_t *run, size_t run_len, uint8_t *out, size_t out_len);
 
 /* ---- Messages ------------------------------------------------------------------------------------------------------------------------- */
@@ -129,18 +129,20 @@ dm_answer dm_realtime(uint8_t byte);
 
 /*
  * Writes a channel message. nibble: 80 note off, 90 note on, A0 key pressure, B0 control change, C0 program change, D0 channel pressure, E0
- * bend. a: the whole of a bend, and else the first data byte, its low eight bits; b: the second data byte. The low seven bits of data and
- * fourteen of a bend are kept. value: the count written. DM_NO_RECORD for another nibble. Refuses DM_CHANNEL_OUT_OF_RANGE, DM_BUFFER_TOO_SMALL.
+ * bend. a: the whole of a bend, and else the first data byte; b: the second data byte, where the message has one. The low seven bits of data and
+ * fourteen of a bend are kept. value: the count written. DM_NO_RECORD, ahead of every refusal, for another nibble. Refuses
+ * DM_CHANNEL_OUT_OF_RANGE, DM_BUFFER_TOO_SMALL.
  */
 dm_answer dm_channel_write(uint8_t nibble, uint8_t channel, uint16_t a, uint8_t b, uint8_t *out, size_t out_len);
 
 /*
  * Writes a system common message. status: F1 time code and F3 song select, with a value to 127; F2 song position, to 16,383; F6 tune
- * request, whose value is ignored. value: the count written. DM_NO_RECORD for another status. Refuses DM_VALUE_TOO_LARGE, DM_BUFFER_TOO_SMALL.
+ * request, whose value is ignored. value: the count written. DM_NO_RECORD, ahead of every refusal, for another status. Refuses
+ * DM_VALUE_TOO_LARGE, DM_BUFFER_TOO_SMALL.
  */
 dm_answer dm_common_write(uint8_t status, uint16_t value, uint8_t *out, size_t out_len);
 
-/* Writes a real-time message, one byte. value: 1. DM_NO_RECORD for a byte that is none. Refuses DM_BUFFER_TOO_SMALL. */
+/* Writes a real-time message, one byte. value: 1. DM_NO_RECORD for any other byte, F9 and FD too. Refuses DM_BUFFER_TOO_SMALL. */
 dm_answer dm_realtime_write(uint8_t byte, uint8_t *out, size_t out_len);
 
 /* ---- The stream decoder ----------------------------------------------------------------------------------------------------------- */
@@ -168,13 +170,19 @@ typedef struct dm_fed_answer {
 /* The frame limit, DM_MAX_SYSEX_LEN. */
 uint64_t dm_capacity(void);
 
-/* Writes a fresh state of DM_STATE_LEN bytes, whatever they held. value: DM_STATE_LEN. Refuses DM_BAD_STORE for any other length. */
+/* Writes a fresh state of DM_STATE_LEN bytes, whatever they held. value: DM_STATE_LEN. Refuses DM_BAD_STORE for any other length than that. */
 dm_answer dm_fresh(uint8_t *state, size_t state_len);
 
-/* Closes the frame and clears status and pending data, whatever the bytes hold. value: DM_STATE_LEN. Refuses DM_BAD_STORE for any other length. */
+/*
+ * Closes a state's frame and clears its status and pending data, whatever the bytes hold. value: DM_STATE_LEN. Refuses DM_BAD_STORE for any other
+ * length than DM_STATE_LEN.
+ */
 dm_answer dm_reset(uint8_t *state, size_t state_len);
 
-/* value: 1 while a frame is open, else 0. Refuses DM_BAD_STORE for bytes that are no state. */
+/*
+ * value: 1 while a frame is open, else 0. Refuses DM_BAD_STORE for bytes that are no state: any other length than DM_STATE_LEN, a flag above 1, and
+ * a status without its flag.
+ */
 dm_answer dm_in_sysex(const uint8_t *state, size_t state_len);
 
 /*
@@ -222,18 +230,19 @@ typedef struct dm_read_answer {
 dm_read_answer dm_frame_read(const uint8_t *bytes, size_t bytes_len);
 
 /*
- * value: how many bytes dm_frame_write writes for this command and run. has_pattern is looked at for command 08 alone: there DM_NO_RECORD where
- * it is above 1. Refuses DM_UNKNOWN_COMMAND, DM_LENGTH_OVERFLOW.
+ * value: how many bytes a frame of this command takes, F0 to F7, with a run of run_len bytes where the command has one. has_pattern: 1 where a
+ * pattern dump names its pattern; it is looked at for command 08 alone. DM_NO_RECORD, ahead of every refusal, for command 08 with has_pattern above
+ * 1. Refuses DM_UNKNOWN_COMMAND, DM_LENGTH_OVERFLOW.
  */
 dm_answer dm_frame_len(uint8_t command, uint8_t has_pattern, size_t run_len);
 
 /*
- * Writes a frame to everyone (everyone 1, unit ignored) or to a unit (everyone 0). Fields and the run that the command lacks are neither tested
- * nor written, has_pattern among them for every command but 08; a run's length is not tested. value: the count written. DM_NO_RECORD, ahead of
- * every refusal, for everyone above 1 and for command 08 with has_pattern above 1. Refuses DM_INVALID_DEVICE_ID, DM_UNKNOWN_COMMAND, then the
- * command's fields in the order in which they are sent (DM_UNSUPPORTED_PROTOCOL_VERSION, DM_INVALID_INTERFACE, DM_BANK_OUT_OF_RANGE,
- * DM_PROGRAM_OUT_OF_RANGE, DM_PATTERN_OUT_OF_RANGE), DM_LENGTH_OVERFLOW, DM_BUFFER_TOO_SMALL, and DM_NOT_SEVEN_BIT for the first byte of the
- * payload that is 80 or above.
+ * Writes a frame to everyone (everyone 1, unit ignored) or to a unit (everyone 0). has_pattern: 1 where a pattern dump names its pattern. Fields
+ * and the run that the command lacks are neither tested nor written, has_pattern among them for every command but 08; a run's length is not
+ * tested. value: the count written. DM_NO_RECORD, ahead of every refusal, for everyone above 1 and for command 08 with has_pattern above 1. Refuses
+ * DM_INVALID_DEVICE_ID, DM_UNKNOWN_COMMAND, then the command's fields in the order in which they are sent (DM_UNSUPPORTED_PROTOCOL_VERSION,
+ * DM_INVALID_INTERFACE, DM_BANK_OUT_OF_RANGE, DM_PROGRAM_OUT_OF_RANGE, DM_PATTERN_OUT_OF_RANGE), DM_LENGTH_OVERFLOW, DM_BUFFER_TOO_SMALL, and
+ * DM_NOT_SEVEN_BIT for the first byte of the payload that is 80 or above.
  */
 dm_answer dm_frame_write(uint8_t everyone, uint8_t unit, uint8_t command, uint8_t free, uint8_t version, uint8_t bank, uint8_t program,
                          uint8_t last, uint8_t pattern, uint8_t has_pattern, uint8_t interface, uint8_t rx, uint8_t tx, const uint8_t *run,
@@ -249,7 +258,10 @@ typedef struct dm_request_answer {
     uint64_t unit;
 } dm_request_answer;
 
-/* What a reply says: the device as above, the firmware's version, the two voice bytes. */
+/*
+ * What a reply says. number: 0, or a refusal with its detail, and then all else is 0. everyone: 1 for device byte 7F, and then unit is 0. major,
+ * minor: the firmware's version. voice_major, voice_minor: the two voice bytes.
+ */
 typedef struct dm_reply_answer {
     uint64_t number;
     uint64_t detail0;
@@ -268,14 +280,15 @@ dm_request_answer dm_request_read(const uint8_t *bytes, size_t bytes_len);
 dm_reply_answer dm_reply_read(const uint8_t *bytes, size_t bytes_len);
 
 /*
- * Writes an identity request of DM_REQUEST_LEN bytes. value: the count written. DM_NO_RECORD for an everyone above 1. Refuses DM_INVALID_DEVICE_ID,
- * DM_BUFFER_TOO_SMALL.
+ * Writes an identity request of DM_REQUEST_LEN bytes to everyone (everyone 1, unit ignored) or to a unit (everyone 0). value: the count written.
+ * DM_NO_RECORD, ahead of every refusal, for everyone above 1. Refuses DM_INVALID_DEVICE_ID, DM_BUFFER_TOO_SMALL.
  */
 dm_answer dm_request_write(uint8_t everyone, uint8_t unit, uint8_t *out, size_t out_len);
 
 /*
- * Writes an identity reply of DM_REPLY_LEN bytes; three bits of minor and four of major are kept, and voice bytes stand as they are. value: the
- * count written. DM_NO_RECORD for an everyone above 1. Refuses DM_INVALID_DEVICE_ID, DM_BUFFER_TOO_SMALL.
+ * Writes an identity reply of DM_REPLY_LEN bytes, its device byte that of everyone (everyone 1, unit ignored) or of a unit (everyone 0). Three bits
+ * of minor and four of major are kept, and voice bytes stand as they are. value: the count written. DM_NO_RECORD, ahead of every refusal, for
+ * everyone above 1. Refuses DM_INVALID_DEVICE_ID, DM_BUFFER_TOO_SMALL.
  */
 dm_answer dm_reply_write(uint8_t everyone, uint8_t unit, uint8_t major, uint8_t minor, uint8_t voice_major, uint8_t voice_minor, uint8_t *out,
                          size_t out_len);
@@ -286,7 +299,10 @@ dm_answer dm_reply_write(uint8_t everyone, uint8_t unit, uint8_t major, uint8_t 
  * A record is DM_HELD_LEN bytes, sixteen for each channel: key k of channel c is bit k % 8 of byte 16 * c + k / 8. Every content is a record.
  */
 
-/* The first held key, lowest channel and then lowest key. found: 1, or 0 where none is held; then channel and key are 0. */
+/*
+ * What dm_held_first finds. number: 0, or DM_BAD_STORE, and then all else is 0. found: 1 where a key is held, with its channel and key, and 0 where
+ * none is; then channel and key are 0.
+ */
 typedef struct dm_held_answer {
     uint64_t number;
     uint64_t found;
@@ -294,20 +310,21 @@ typedef struct dm_held_answer {
     uint64_t key;
 } dm_held_answer;
 
-/* Writes a record in which no key is held. value: DM_HELD_LEN. Refuses DM_BAD_STORE for any other length. */
+/* Writes a record in which no key is held. value: DM_HELD_LEN. Refuses DM_BAD_STORE for any other length than DM_HELD_LEN. */
 dm_answer dm_held_fresh(uint8_t *keys, size_t keys_len);
 
 /*
- * Applies a channel message, given as to dm_channel_write: a note on holds its key, whatever its velocity, a note off releases it, and other
- * messages change nothing; keys are masked to seven bits. value: 0. Refuses DM_BAD_STORE for any other length than DM_HELD_LEN; DM_NO_RECORD for a
- * nibble that is no message's; then refuses DM_CHANNEL_OUT_OF_RANGE.
+ * Applies a channel message to a record. nibble: 90 note on, which holds its key, whatever its velocity; 80 note off, which releases it; A0 key
+ * pressure, B0 control change, C0 program change, D0 channel pressure and E0 bend, which change nothing. a: a note's key, of which the low seven
+ * bits count; b: its velocity, which does not matter. value: 0. Refuses DM_BAD_STORE for any other length than DM_HELD_LEN; DM_NO_RECORD for another
+ * nibble; then refuses DM_CHANNEL_OUT_OF_RANGE.
  */
 dm_answer dm_held_apply(uint8_t *keys, size_t keys_len, uint8_t nibble, uint8_t channel, uint16_t a, uint8_t b);
 
-/* value: how many keys are held on a channel. Refuses DM_BAD_STORE, DM_CHANNEL_OUT_OF_RANGE. */
+/* value: how many keys are held on a channel. Refuses DM_BAD_STORE for any other length than DM_HELD_LEN, then DM_CHANNEL_OUT_OF_RANGE. */
 dm_answer dm_held_count(const uint8_t *keys, size_t keys_len, uint8_t channel);
 
-/* Refuses DM_BAD_STORE for any other length than DM_HELD_LEN. */
+/* Finds the first held key, lowest channel and then lowest key. Refuses DM_BAD_STORE for any other length than DM_HELD_LEN. */
 dm_held_answer dm_held_first(const uint8_t *keys, size_t keys_len);
 
 #ifdef __cplusplus
