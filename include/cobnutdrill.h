@@ -231,8 +231,8 @@ dm_read_answer dm_frame_read(const uint8_t *bytes, size_t bytes_len);
 
 /*
  * value: how many bytes a frame of this command takes, F0 to F7, with a run of run_len bytes where the command has one. has_pattern: 1 where a
- * pattern dump names its pattern; it is looked at for command 08 alone. DM_NO_RECORD, ahead of every refusal, for command 08 with has_pattern above
- * 1. Refuses DM_UNKNOWN_COMMAND, DM_LENGTH_OVERFLOW.
+ * pattern dump names its pattern; it is looked at for command 08 alone. DM_NO_RECORD, ahead of every refusal, for command 08 with a has_pattern
+ * above 1. Refuses DM_UNKNOWN_COMMAND, DM_LENGTH_OVERFLOW.
  */
 dm_answer dm_frame_len(uint8_t command, uint8_t has_pattern, size_t run_len);
 
