@@ -4,7 +4,7 @@ use Rattle.std.specs.Prelude.{List, [], ◌∷◌, ◌++◌, ℕ, ◌+◌, ◌^�
 use Rattle.laws.specs.Choice.{pick}
 use Rattle.refusal.specs.Outcome.{Outcome, gives, unless, and_then}
 use Rattle.ids.specs.declared.device.DeviceId.{DeviceId}
-use Rattle.ids.specs.Device.{device_byte, device_in_range}
+use Rattle.ids.specs.Device.{device_byte, when_device}
 use Rattle.command.specs.declared.Command.{Command}
 use Rattle.command.specs.Command.{code_of, command_of}
 use Rattle.framing.specs.Framing.{when_seven_bit, maker}
@@ -52,10 +52,8 @@ fields_write d k f run room =
 -- 5 first
 abbrev pub frame_write : FrameHead → List ℕ → ℕ → Outcome (List ℕ)
 frame_write x run room =
-    unless (device_in_range x.device) 5 (device_byte x.device ∷ [])
-    (fields_write x.device (command_of_head x.head) (fields_of x.head) run room)
+    when_device x.device (fields_write x.device (command_of_head x.head) (fields_of x.head) run room)
 
 -- 5, then 6
 abbrev pub record_write : DeviceId → ℕ → Fields → List ℕ → ℕ → Outcome (List ℕ)
-record_write d c f run room =
-    unless (device_in_range d) 5 (device_byte d ∷ []) (and_then (command_of c) (λ k. fields_write d k f run room))
+record_write d c f run room = when_device d (and_then (command_of c) (λ k. fields_write d k f run room))

@@ -9,9 +9,9 @@ use lib.Dec.{ltb}
 use lib.ListN.{length, get_or}
 use borrow.Author.Tests.{ltb-true}
 use Rattle.laws.proofs.Tests.{both}
-use Rattle.refusal.specs.Outcome.{Outcome, gives, unless}
+use Rattle.refusal.specs.Outcome.{Outcome, gives}
 use Rattle.refusal.proofs.Given.{given_first}
-use Rattle.ids.specs.Device.{device_byte, device_in_range}
+use Rattle.ids.specs.Device.{when_device}
 use Rattle.command.specs.declared.Command.{Command}
 use Rattle.command.specs.declared.Command.TheVariants as k
 use Rattle.command.specs.Payload as y
@@ -85,7 +85,7 @@ frame_written_again bytes x room e real fits =
     r.command r.fields (run_of bytes) room =
     ap₂ (λ (c : Command) (f : Fields). fields_write r.device c f (run_of bytes) room) (command_back r.command r.fields) (same_fields bytes r d) in
     subst (λ (z : FrameHead). frame_write z (run_of bytes) room ≡ gives bytes) same
-    (ap (λ (o : Outcome (List ℕ)). unless (device_in_range r.device) 5 (device_byte r.device ∷ []) o) fields
+    (ap (λ (o : Outcome (List ℕ)). when_device r.device o) fields
     ∙ rw (code_reads_back r.command) at (fields_written_again bytes r room g.1 real fits))
 
 -- and reads back as itself, its run included

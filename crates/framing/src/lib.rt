@@ -1,9 +1,9 @@
 // What frames and identity messages share: F0 and F7 at the ends, bytes below 80 between them, maker and model.
 #![tactic(auto)]
 
-ghost use Rattle.std.specs.Prelude.{◌≡◌, [], ◌∷◌};
-ghost use Rattle.refusal.specs.Outcome.{answered, gives, unless};
-ghost use Rattle.ids.specs.Device.{device_byte, device_in_range};
+ghost use Rattle.std.specs.Prelude.{◌≡◌};
+ghost use Rattle.refusal.specs.Outcome.{answered, gives};
+ghost use Rattle.ids.specs.Device.{device_byte, device_in_range, when_device};
 ghost use Rattle.framing.specs.Framing.{framed, first_high, same_bytes};
 
 use ids::DeviceId;
@@ -62,7 +62,7 @@ pub fn device_in_range(device: DeviceId) -> bool
 
 // The device's byte for a frame. Refuses 5 with the byte of a unit that has none.
 pub fn device_byte(device: DeviceId) -> Result<u8, Refusal>
-    ensures { answered result ≡ unless (device_in_range device) 5 (device_byte device ∷ []) (gives (device_byte device)) }
+    ensures { answered result ≡ when_device device (gives (device_byte device)) }
 {
     let byte = device.to_byte();
     if device_in_range(device) {

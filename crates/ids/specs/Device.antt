@@ -23,3 +23,7 @@ reaches (d.Unit n) listener = eqb n (device_byte listener)
 abbrev pub device_in_range : DeviceId → Bool
 device_in_range (d.Unit n) = ltb n 16
 device_in_range d.Broadcast = true
+
+-- what every writer of a device tests first: "5, also for a unit above 0F", with the byte
+abbrev pub when_device : {A : Type 0} → DeviceId → Outcome A → Outcome A
+when_device d next = unless (device_in_range d) 5 (device_byte d ∷ []) next

@@ -3,7 +3,7 @@
 use Rattle.std.specs.Prelude.{Bool, List, [], ◌∷◌, ◌++◌, ℕ, get_or}
 use Rattle.refusal.specs.Outcome.{Outcome, gives, unless, and_then, with_room}
 use Rattle.ids.specs.declared.device.DeviceId.{DeviceId}
-use Rattle.ids.specs.Device.{device_of, device_byte, device_in_range}
+use Rattle.ids.specs.Device.{device_of, device_byte, when_device}
 use Rattle.framing.specs.Framing.{when_framed, maker}
 use Rattle.inquiry.specs.Shape.{has_shape}
 use Rattle.inquiry.specs.declared.identity.Identity.{Identity}
@@ -31,4 +31,4 @@ reply_bytes x =
 
 -- the writer: 5, also for a unit above 0F, then 14
 abbrev pub reply_write : Identity → ℕ → Outcome (List ℕ)
-reply_write x room = unless (device_in_range x.device) 5 (device_byte x.device ∷ []) (with_room room (reply_bytes x))
+reply_write x room = when_device x.device (with_room room (reply_bytes x))

@@ -2,7 +2,7 @@
 use Rattle.std.specs.Prelude.{Bool, List, [], ◌∷◌, ℕ, get_or}
 use Rattle.refusal.specs.Outcome.{Outcome, unless, with_room}
 use Rattle.ids.specs.declared.device.DeviceId.{DeviceId}
-use Rattle.ids.specs.Device.{device_of, device_byte, device_in_range}
+use Rattle.ids.specs.Device.{device_of, device_byte, when_device}
 use Rattle.framing.specs.Framing.{when_framed}
 use Rattle.inquiry.specs.Shape.{has_shape}
 
@@ -20,4 +20,4 @@ request_bytes d = 0xF0 ∷ 0x7E ∷ device_byte d ∷ 0x06 ∷ 0x01 ∷ 0xF7 ∷
 
 -- the writer: 5, also for a unit above 0F, then 14
 abbrev pub request_write : DeviceId → ℕ → Outcome (List ℕ)
-request_write d room = unless (device_in_range d) 5 (device_byte d ∷ []) (with_room room (request_bytes d))
+request_write d room = when_device d (with_room room (request_bytes d))

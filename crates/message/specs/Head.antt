@@ -1,8 +1,8 @@
 -- The 22 messages: the command of each, its fields, and the message that some fields make.
-use Rattle.std.specs.Prelude.{Bool, true, false, [], ◌∷◌, ℕ, None, Option, Some}
-use Rattle.refusal.specs.Outcome.{Outcome, gives, unless, and_then}
+use Rattle.std.specs.Prelude.{Bool, true, false, ℕ, None, Option, Some}
+use Rattle.refusal.specs.Outcome.{Outcome, gives, and_then}
 use Rattle.ids.specs.declared.device.DeviceId.{DeviceId}
-use Rattle.ids.specs.Device.{device_byte, device_in_range}
+use Rattle.ids.specs.Device.{when_device}
 use Rattle.command.specs.declared.Command.{Command}
 use Rattle.command.specs.declared.Command.TheVariants as k
 use Rattle.command.specs.Command.{command_of}
@@ -129,5 +129,4 @@ version_of_head (h.PolyChordMemoryDumpResponse a) = Some a
 -- "5, also for a unit above 0F, then 6 where the command is given as a byte, then 8, 12, 9, 10, 11 in wire order"
 abbrev pub record_frame : DeviceId → ℕ → Fields → Outcome FrameHead
 record_frame d c f =
-    unless (device_in_range d) 5 (device_byte d ∷ [])
-    (and_then (command_of c) (λ k. and_then (checked_fields k f) (λ own. gives (record { device = d; head = head_from k own }))))
+    when_device d (and_then (command_of c) (λ k. and_then (checked_fields k f) (λ own. gives (record { device = d; head = head_from k own }))))
