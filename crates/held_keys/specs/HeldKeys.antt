@@ -1,9 +1,10 @@
 -- The held keys of document 01: "For 16 channels of 128 keys: a note on holds its key, a note off releases it".
-use Rattle.std.specs.Prelude.{Bool, true, false, List, [], ◌∷◌, ℕ, zero, suc, ◌+◌, ◌/◌, ◌%◌, ◌^◌, ltb, eqb, get_or, Err, None, Ok, Option, Result, Some, ⊤}
+use Rattle.std.specs.Prelude.{Bool, true, false, List, [], ◌∷◌, ℕ, zero, suc, ◌+◌, ◌/◌, ◌%◌, ◌^◌, eqb, get_or, Err, None, Ok, Option, Result, Some, ⊤}
 use Rattle.laws.specs.Choice.{pick}
 use Rattle.laws.specs.Tabulate.{tab}
-use Rattle.refusal.specs.Outcome.{Outcome, gives, refusal, unless}
+use Rattle.refusal.specs.Outcome.{Outcome, gives, refusal}
 use Rattle.refusal.specs.declared.Refusal.{Refusal}
+use Rattle.wire.specs.Channel.{when_channel}
 use Rattle.wire.specs.declared.channel_message.ChannelMessage.{ChannelMessage}
 use Rattle.wire.specs.declared.channel_message.ChannelMessage.TheVariants as m
 use Rattle.held_keys.specs.declared.Effect.{Effect}
@@ -39,7 +40,7 @@ still_held keys channel message c k = pick (eqb c channel) (held_after (effect_o
 
 -- "A channel of 16 or more gets 17", with the channel, whatever the message is; else there is nothing to tell
 abbrev pub key_answer : ℕ → Outcome ℕ
-key_answer channel = unless (ltb channel 16) 17 (channel ∷ []) (gives 0)
+key_answer channel = when_channel channel (gives 0)
 
 -- what an answer tells
 abbrev pub key_told : Result ⊤ Refusal → Outcome ℕ
@@ -53,7 +54,7 @@ count_below held (suc n) = count_below held n + pick (held n) 1 0
 
 -- "count held on a channel"
 abbrev pub count_on : List (List ℕ) → ℕ → Outcome ℕ
-count_on keys channel = unless (ltb channel 16) 17 (channel ∷ []) (gives (count_below (is_held keys channel) 128))
+count_on keys channel = when_channel channel (gives (count_below (is_held keys channel) 128))
 
 -- every key of every channel, the lowest channel first and in it the lowest key: place i is key i % 128 of channel i / 128
 unfoldable pub every_key : List (ℕ × ℕ)

@@ -1,8 +1,9 @@
 -- Channel messages: what they are on the wire, and what three bytes mean.
-use Rattle.std.specs.Prelude.{Bool, ◌&&◌, List, [], ◌∷◌, ℕ, ◌+◌, ◌*◌, ◌/◌, ◌%◌, ltb, leb, eqb, None, Option, Some}
+use Rattle.std.specs.Prelude.{Bool, ◌&&◌, List, [], ◌∷◌, ℕ, ◌+◌, ◌*◌, ◌/◌, ◌%◌, leb, eqb, None, Option, Some}
 use Rattle.laws.specs.Choice.{pick}
-use Rattle.refusal.specs.Outcome.{Outcome, unless, with_room}
+use Rattle.refusal.specs.Outcome.{Outcome, with_room}
 use Rattle.wire.specs.declared.Channel.{Channel}
+use Rattle.wire.specs.Channel.{when_channel}
 use Rattle.wire.specs.Status.{data_length, is_channel_status}
 use Rattle.wire.specs.declared.channel_message.ChannelMessage.{ChannelMessage}
 use Rattle.wire.specs.declared.channel_message.ChannelMessage.TheVariants as m
@@ -37,7 +38,7 @@ channel_bytes c m = (status_nibble m + c.0) ∷ data_bytes m
 
 -- the writer: 17, then 14
 abbrev pub channel_write : Channel → ChannelMessage → ℕ → Outcome (List ℕ)
-channel_write c m room = unless (ltb c.0 16) 17 (c.0 ∷ []) (with_room room (channel_bytes c m))
+channel_write c m room = when_channel c.0 (with_room room (channel_bytes c m))
 
 -- what a status byte and its data mean; the data's top bits are ignored, and of one-byte messages the second byte too
 abbrev pub channel_message : ℕ → ℕ → ℕ → Option ChannelMessage
