@@ -15,10 +15,6 @@ pub use real_time::Realtime;
 use refusal::{OfByte, Refusal};
 pub use system_common::{CommonStatus, SystemCommon};
 
-pub const SYSEX_START: u8 = 0xF0;
-
-pub const SYSEX_END: u8 = 0xF7;
-
 pub const CHANNEL_COUNT: u8 = 16;
 
 // A MIDI channel as it stands on the wire, 0 to 15.
