@@ -86,9 +86,13 @@ is_run program_data = true
 is_run (fixed n) = true
 is_run any = true
 
+-- does a command's message carry a run? The list says so by the word "run"
+abbrev pub carries_run : Command → Bool
+carries_run k = is_run (payload_of k).run
+
 -- which way a message travels: the dumps and the answer to a control application (10) come from the synthesizer (the Rust's command)
 abbrev pub direction_of : Command → Direction
-direction_of k = pick (is_run (payload_of k).run || eqb (code_of k) 0x10) d.FromDevice d.ToDevice
+direction_of k = pick (carries_run k || eqb (code_of k) 0x10) d.FromDevice d.ToDevice
 
 -- the raw length that a run names for a version: "program, edit" 245 or 242; 0 where none is named
 abbrev pub run_length : Run → ℕ → ℕ

@@ -4,7 +4,7 @@
 ghost use Rattle.std.specs.Prelude.{◌≡◌};
 ghost use Rattle.command.specs.Command.{code_of, commands, command_of};
 ghost use Rattle.command.specs.Laws.{read_code};
-ghost use Rattle.command.specs.Payload.{direction_of, is_run, payload_of, row_of, raw_length_for};
+ghost use Rattle.command.specs.Payload.{carries_run, direction_of, row_of, raw_length_for};
 
 use ids::ProtocolVersion;
 use refusal::{OfByte, Refusal};
@@ -230,7 +230,7 @@ impl Command {
 
     // Does a message of this command end with a packed run?
     pub fn carries_run(self) -> bool
-        ensures { result ≡ is_run (payload_of self).run }
+        ensures { result ≡ carries_run self }
     {
         match self {
             Command::ProgramDumpResponse

@@ -16,13 +16,13 @@ use Rattle.ids.specs.Device.{device_of}
 use Rattle.command.specs.declared.Command.{Command}
 use Rattle.command.specs.Command.{code_of, command_of}
 use Rattle.command.specs.Payload as y
-use Rattle.command.specs.Payload.{Field, payload_of, raw_length_for}
+use Rattle.command.specs.Payload.{Field, payload_of, raw_length_for, carries_run}
 use Rattle.command.proofs.Table.{same_at_every}
 use Rattle.packed.specs.Packed.{packed_length}
 use Rattle.framing.specs.Framing.{framed, body, first_high, when_seven_bit, same_bytes}
 use Rattle.framing.proofs.Bytes.{same_is, no_high}
 use Rattle.message.specs.declared.fields.Fields.{Fields}
-use Rattle.message.specs.Prefix.{carries_run, optional, field_list, fields_at, field_fits, field_refusal, field_ok, all_fit, checked}
+use Rattle.message.specs.Prefix.{optional, field_list, fields_at, field_fits, field_refusal, field_ok, all_fit, checked}
 use Rattle.frame_reader.specs.declared.Record.{Record}
 use Rattle.frame_reader.specs.Payload.{accepted, numbered_by, prefix_length, early, is_any, when_run, read_fields, read_short, read_run, read_dump, read_payload}
 use Rattle.frame_reader.specs.Reader.{payload, maker, read_command, read_header, read_record}

@@ -14,12 +14,12 @@ use Rattle.ids.proofs.device.Range.{device_numbered}
 use Rattle.command.specs.declared.Command.{Command}
 use Rattle.command.specs.Command.{code_of, command_of}
 use Rattle.command.specs.Payload as y
-use Rattle.command.specs.Payload.{Field, payload_of, raw_length_for}
+use Rattle.command.specs.Payload.{Field, payload_of, raw_length_for, carries_run}
 use Rattle.command.proofs.Table.{command_numbered}
 use Rattle.packed.specs.Packed.{packed_length}
 use Rattle.framing.specs.Framing.{framed, body, first_high, unless_high, when_seven_bit, same_bytes}
 use Rattle.message.specs.declared.fields.Fields.{Fields}
-use Rattle.message.specs.Prefix.{carries_run, optional, field_list, fields_at, field_fits, field_ok, checked}
+use Rattle.message.specs.Prefix.{optional, field_list, fields_at, field_fits, field_ok, checked}
 use Rattle.frame_reader.specs.Payload.{accepted, is_any, numbered_by, early, prefix_length, when_length, when_run, read_fields, read_short, read_run, read_dump, read_payload}
 use Rattle.frame_reader.specs.Reader.{payload, maker, read_command, read_header, read_record}
 

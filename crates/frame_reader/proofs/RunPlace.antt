@@ -14,11 +14,11 @@ use Rattle.refusal.proofs.Given.{given_not_refused}
 use Rattle.laws.proofs.Tests.{both, split}
 use Rattle.command.specs.declared.Command.{Command}
 use Rattle.command.specs.Payload as y
-use Rattle.command.specs.Payload.{payload_of}
+use Rattle.command.specs.Payload.{payload_of, carries_run}
 use Rattle.message.specs.declared.fields.Fields.{Fields}
 use Rattle.refusal.specs.declared.Refusal.{Refusal}
 use Rattle.refusal.specs.Outcome.{Outcome, gives, refused, refusal, and_then}
-use Rattle.message.specs.Prefix.{optional, field_list, carries_run}
+use Rattle.message.specs.Prefix.{optional, field_list}
 use Rattle.frame_reader.specs.declared.Record.{Record}
 use Rattle.frame_reader.specs.Payload.{numbered_by, prefix_length}
 use Rattle.frame_reader.specs.declared.Located.{Located}

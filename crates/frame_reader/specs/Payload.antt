@@ -5,10 +5,10 @@ use Rattle.refusal.specs.Outcome.{Outcome, gives, unless}
 use Rattle.command.specs.declared.Command.{Command}
 use Rattle.command.specs.Command.{code_of}
 use Rattle.command.specs.Payload as y
-use Rattle.command.specs.Payload.{Run, payload_of, raw_length_for}
+use Rattle.command.specs.Payload.{Run, payload_of, raw_length_for, carries_run}
 use Rattle.packed.specs.Packed.{packed_length, unpacked_length}
 use Rattle.message.specs.declared.fields.Fields.{Fields}
-use Rattle.message.specs.Prefix.{carries_run, optional, field_list, fields_at, field_ok, checked}
+use Rattle.message.specs.Prefix.{optional, field_list, fields_at, field_ok, checked}
 
 -- "Accepted run lengths": the run can be unpacked, and holds the raw bytes and less than one group more
 abbrev pub accepted : ℕ → ℕ → Bool

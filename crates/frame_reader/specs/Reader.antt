@@ -10,7 +10,8 @@ use Rattle.framing.specs.Framing.{when_framed, when_seven_bit, body, same_bytes}
 pub use Rattle.framing.specs.Framing.{maker}
 use Rattle.message.specs.declared.head.FrameHead.{FrameHead}
 use Rattle.message.specs.Head.{head_from}
-use Rattle.message.specs.Prefix.{carries_run, field_list}
+use Rattle.command.specs.Payload.{carries_run}
+use Rattle.message.specs.Prefix.{field_list}
 use Rattle.frame_reader.specs.Payload.{read_payload}
 use Rattle.frame_reader.specs.declared.Record.{Record}
 use Rattle.frame_reader.specs.declared.Located.{Located}

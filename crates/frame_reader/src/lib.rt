@@ -4,7 +4,8 @@
 ghost use Rattle.refusal.specs.Outcome.{answered};
 ghost use Rattle.std.specs.Prelude.{◌≡◌, ◌+◌, ◌-◌, ◌≤◌, length};
 ghost use Rattle.laws.specs.Choice.{pick};
-ghost use Rattle.message.specs.Prefix.{carries_run, field_list};
+ghost use Rattle.command.specs.Payload.{carries_run};
+ghost use Rattle.message.specs.Prefix.{field_list};
 ghost use Rattle.frame_reader.specs.Reader.{read_header, read_record, read_located, place_in, parsed, RunLent};
 
 pub mod payload;

@@ -3,7 +3,8 @@ ghost use Rattle.refusal.specs.Outcome.{answered};
 ghost use Rattle.std.specs.Prelude.{◌≡◌, true, false, length};
 ghost use Rattle.command.specs.Command.{code_of};
 ghost use Rattle.refusal.specs.declared.Refusal.TheVariants as r;
-ghost use Rattle.message.specs.Prefix.{carries_run, fields_at};
+ghost use Rattle.command.specs.Payload.{carries_run};
+ghost use Rattle.message.specs.Prefix.{fields_at};
 ghost use Rattle.frame_reader.specs.Payload.{accepted, numbered_by, early, read_short, read_dump, read_run, version_in, read_payload};
 
 use command::Command;

@@ -19,7 +19,8 @@ use Rattle.ids.specs.Device.{device_byte}
 use Rattle.command.specs.declared.Command.{Command}
 use Rattle.command.specs.Command.{code_of}
 use Rattle.message.specs.declared.fields.Fields.{Fields}
-use Rattle.message.specs.Prefix.{carries_run, prefix_of, checked_fields}
+use Rattle.command.specs.Payload.{carries_run}
+use Rattle.message.specs.Prefix.{prefix_of, checked_fields}
 use Rattle.framing.specs.Framing.{first_high}
 use Rattle.frame_writer.specs.Writer.{row, own_run, length_for, seven_bit_write, room_write, fields_write}
 use Rattle.refusal.specs.declared.Refusal.{Refusal}

@@ -12,7 +12,8 @@ use Rattle.message.specs.declared.fields.Fields.{Fields}
 use Rattle.message.specs.declared.head.Head.{Head}
 use Rattle.message.specs.declared.head.FrameHead.{FrameHead}
 use Rattle.message.specs.Head.{command_of_head, fields_of}
-use Rattle.message.specs.Prefix.{carries_run, prefix_of, checked_fields}
+use Rattle.command.specs.Payload.{carries_run}
+use Rattle.message.specs.Prefix.{prefix_of, checked_fields}
 
 -- "Row: F0 00 20 32 20, device, command, payload, F7"
 abbrev pub header : ℕ → ℕ → List ℕ

@@ -6,7 +6,7 @@ ghost use Rattle.laws.specs.Choice.{pick};
 ghost use Rattle.ids.specs.Device.{device_byte};
 ghost use Rattle.command.specs.Command.{code_of};
 ghost use Rattle.framing.specs.Framing.{first_high};
-ghost use Rattle.message.specs.Prefix.{carries_run};
+ghost use Rattle.command.specs.Payload.{carries_run};
 ghost use Rattle.refusal.specs.Outcome.{Writes, answered};
 ghost use Rattle.frame_writer.specs.Writer.{length_for, head_length, header, row, frame_write, record_write, fields_write, seven_bit_write};
 

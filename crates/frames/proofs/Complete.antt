@@ -12,12 +12,12 @@ use Rattle.laws.proofs.Tests.{both}
 use Rattle.refusal.specs.Outcome.{Outcome, gives, unless}
 use Rattle.command.specs.declared.Command.{Command}
 use Rattle.command.specs.Command.{code_of}
-use Rattle.command.specs.Payload.{payload_of, raw_length_for}
+use Rattle.command.specs.Payload.{payload_of, raw_length_for, carries_run}
 use Rattle.command.proofs.Table.{of_every}
 use Rattle.packed.specs.Packed.{packed_length}
 use Rattle.framing.specs.Framing.{same_bytes}
 use Rattle.message.specs.declared.fields.Fields.{Fields}
-use Rattle.message.specs.Prefix.{carries_run, optional, field_list, fields_at, all_fit}
+use Rattle.message.specs.Prefix.{optional, field_list, fields_at, all_fit}
 use Rattle.frame_reader.specs.declared.Record.{Record}
 use Rattle.frame_reader.specs.Payload.{accepted, numbered_by, prefix_length, early, is_any, when_run, version_in, read_fields, read_short, read_run, read_dump, read_payload}
 use Rattle.frame_reader.specs.Reader.{payload, maker, read_record}

@@ -18,11 +18,11 @@ use Rattle.command.specs.declared.Command.{Command}
 use Rattle.command.specs.declared.Command.TheVariants as k
 use Rattle.command.specs.Command.{code_of}
 use Rattle.command.specs.Payload as y
-use Rattle.command.specs.Payload.{Field, payload_of}
+use Rattle.command.specs.Payload.{Field, payload_of, carries_run}
 use Rattle.command.proofs.Table.{code_reads_back}
 use Rattle.framing.specs.Framing.{framed, first_high}
 use Rattle.message.specs.declared.fields.Fields.{Fields}
-use Rattle.message.specs.Prefix.{carries_run, optional, field_list, fields_in, fields_at, all_fit}
+use Rattle.message.specs.Prefix.{optional, field_list, fields_in, fields_at, all_fit}
 use Rattle.message.proofs.prefix.ByKind.{fields_same, length_wire, version_first}
 use Rattle.frame_reader.specs.declared.Record.{Record}
 use Rattle.frame_reader.specs.Payload.{accepted, numbered_by, prefix_length}

@@ -18,13 +18,13 @@ use Rattle.ids.specs.Device.{device_byte, device_in_range}
 use Rattle.ids.proofs.device.Range.{read_device_in_range}
 use Rattle.command.specs.declared.Command.{Command}
 use Rattle.command.specs.Command.{code_of, commands}
-use Rattle.command.specs.Payload.{Field}
+use Rattle.command.specs.Payload.{Field, carries_run}
 use Rattle.command.specs.Laws.{read_code}
 use Rattle.command.proofs.Table.{code_reads_back, same_at_every}
 use Rattle.framing.specs.Framing.{body, first_high}
 use Rattle.framing.proofs.Bytes.{spelled, high_none_behind}
 use Rattle.message.specs.declared.fields.Fields.{Fields}
-use Rattle.message.specs.Prefix.{carries_run, field_list, fields_at, wire, prefix_of, all_fit, field_fits, checked_fields}
+use Rattle.message.specs.Prefix.{field_list, fields_at, wire, prefix_of, all_fit, field_fits, checked_fields}
 use Rattle.frame_reader.specs.declared.Record.{Record}
 use Rattle.frame_reader.specs.Payload.{numbered_by, prefix_length}
 use Rattle.frame_reader.specs.Reader.{payload, maker, read_record, run_in, run_of}

@@ -11,8 +11,8 @@ use Rattle.laws.specs.Choice.{pick}
 use Rattle.laws.proofs.Tests.{both, alike, alike_same, split}
 use Rattle.command.specs.declared.Command.{Command}
 use Rattle.command.specs.declared.Command.TheVariants as k
-use Rattle.command.specs.Payload.{payload_of, raw_length_for}
-use Rattle.message.specs.Prefix.{carries_run, optional}
+use Rattle.command.specs.Payload.{payload_of, raw_length_for, carries_run}
+use Rattle.message.specs.Prefix.{optional}
 use Rattle.packed.specs.Packed.{unpacked_length}
 use Rattle.frame_reader.specs.Payload.{accepted, numbered_by, prefix_length, is_any}
 use Rattle.frame_reader.proofs.RunPlace.{numbered_long}

@@ -5,12 +5,8 @@ use Rattle.refusal.specs.Outcome.{Outcome, gives, unless}
 use Rattle.command.specs.declared.Command.{Command}
 use Rattle.command.specs.Command.{code_of}
 use Rattle.command.specs.Payload as y
-use Rattle.command.specs.Payload.{Field, payload_of, is_run}
+use Rattle.command.specs.Payload.{Field, payload_of}
 use Rattle.message.specs.declared.fields.Fields.{Fields}
-
--- does a command's message carry a run? The table says so by the word "run"
-abbrev pub carries_run : Command → Bool
-carries_run k = is_run (payload_of k).run
 
 -- "08 v [pattern] run": one payload whose pattern number may be missing
 abbrev pub optional : Command → Bool

@@ -14,10 +14,10 @@ use Rattle.command.specs.declared.Command.{Command}
 use Rattle.command.specs.declared.Command.TheVariants as k
 use Rattle.command.specs.Command.{code_of}
 use Rattle.command.specs.Payload as y
-use Rattle.command.specs.Payload.{payload_of, raw_length_for}
+use Rattle.command.specs.Payload.{payload_of, raw_length_for, carries_run}
 use Rattle.command.proofs.Table.{same_code, same_at_every}
 use Rattle.packed.specs.Packed.{packed_length}
-use Rattle.message.specs.Prefix.{carries_run, optional, fields_at, field_ok}
+use Rattle.message.specs.Prefix.{optional, fields_at, field_ok}
 use Rattle.message.specs.quick.Prefix.{small_checked}
 use Rattle.message.proofs.prefix.ByKind.{checked_by_kind, version_first}
 use Rattle.frame_reader.specs.Payload.{accepted, numbered_by, prefix_length, when_length, read_fields, is_any, version_in, read_run}

@@ -12,10 +12,10 @@ use Rattle.laws.proofs.Tests.{true_is_not_false}
 use Rattle.refusal.specs.Outcome.{Outcome, gives}
 use Rattle.command.specs.declared.Command.{Command}
 use Rattle.command.specs.Payload as y
-use Rattle.command.specs.Payload.{Field}
+use Rattle.command.specs.Payload.{Field, carries_run}
 use Rattle.command.proofs.Table.{of_every, same_at_every}
 use Rattle.message.specs.declared.fields.Fields.{Fields}
-use Rattle.message.specs.Prefix.{tag, value_of, second_of, field_list, fields_in, fields_at, carries_run, checked, field_ok, wire}
+use Rattle.message.specs.Prefix.{tag, value_of, second_of, field_list, fields_in, fields_at, checked, field_ok, wire}
 use Rattle.message.specs.quick.Prefix.{small_checked}
 
 -- fields are read by their bytes alone: two payloads that agree in the first n bytes give the same
