@@ -76,6 +76,9 @@ pub struct Row {
     pub raw_len: usize,
 }
 
+// The raw bytes of a pattern, which the reader also tells a pattern's number by.
+pub const PATTERN_RAW_LEN: usize = 65;
+
 // Rows that look alike stay written out: they are data, the paper's table.
 pub static COMMANDS: [Row; 22] = [
     Row {
@@ -121,7 +124,7 @@ pub static COMMANDS: [Row; 22] = [
     Row {
         code: 0x08,
         prefix_len: 1,
-        raw_len: 65,
+        raw_len: PATTERN_RAW_LEN,
     },
     Row {
         code: 0x09,

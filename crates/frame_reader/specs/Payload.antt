@@ -3,9 +3,10 @@ use Rattle.std.specs.Prelude.{Bool, true, false, ◌&&◌, ◌||◌, not, List, 
 use Rattle.laws.specs.Choice.{pick}
 use Rattle.refusal.specs.Outcome.{Outcome, gives, unless}
 use Rattle.command.specs.declared.Command.{Command}
+use Rattle.command.specs.declared.Command.TheVariants as k
 use Rattle.command.specs.Command.{code_of}
 use Rattle.command.specs.Payload as y
-use Rattle.command.specs.Payload.{Run, payload_of, raw_length_for, carries_run}
+use Rattle.command.specs.Payload.{Run, payload_of, raw_length_for, table_length, carries_run}
 use Rattle.packed.specs.Packed.{packed_length, unpacked_length}
 use Rattle.message.specs.declared.fields.Fields.{Fields}
 use Rattle.message.specs.Prefix.{optional, field_list, fields_at, field_ok, checked}
@@ -14,9 +15,13 @@ use Rattle.message.specs.Prefix.{optional, field_list, fields_at, field_ok, chec
 abbrev pub accepted : ℕ → ℕ → Bool
 accepted raw n = not (eqb (n % 8) 1) && leb raw (unpacked_length n) && ltb (unpacked_length n) (raw + 7)
 
+-- the raw bytes of a pattern, by the row of 08
+abbrev pub pattern_raw : ℕ
+pattern_raw = table_length (payload_of k.UserPatternDumpResponse).run
+
 -- "Pattern, after v: 75-80 or 82 bytes mean no pattern number; 81 or 83 mean one", for a payload of n bytes with its version
 abbrev pub numbered_by : ℕ → Bool
-numbered_by n = not (accepted 65 (n - 1)) && accepted 65 (n - 2)
+numbered_by n = not (accepted pattern_raw (n - 1)) && accepted pattern_raw (n - 2)
 
 -- the bytes ahead of the run, a pattern's number not counted
 abbrev pub prefix_length : Command → ℕ

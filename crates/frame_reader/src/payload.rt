@@ -7,13 +7,10 @@ ghost use Rattle.command.specs.Payload.{carries_run};
 ghost use Rattle.message.specs.Prefix.{fields_at};
 ghost use Rattle.frame_reader.specs.Payload.{accepted, numbered_by, early, read_short, read_dump, read_run, version_in, read_payload};
 
-use command::Command;
+use command::{Command, PATTERN_RAW_LEN};
 use ids::ProtocolVersion;
 use message::Fields;
 use refusal::{OfByte, Refusal};
-
-// The raw bytes of a pattern.
-const PATTERN_RAW_LEN: usize = 65;
 
 // Does a run of so many bytes hold the raw bytes, and less than a group more?
 pub fn holds(run_len: usize, raw_len: usize) -> bool
