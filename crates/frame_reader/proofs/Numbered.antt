@@ -44,8 +44,8 @@ length_numbered : (ok : Bool) (k : Command) (expected : ℕ) (p : List ℕ) (nex
 length_numbered ok k expected p next h = unless_numbered ok 7 (code_of k ∷ expected ∷ length p ∷ []) next refl h
 
 -- 7, or 13
-run_numbered : (k : Command) (v : ℕ) (p : List ℕ) (next : Outcome Fields) → numbered next ≡ true → numbered (when_run k v p next) ≡ true
-run_numbered k v p next h = go (is_any (payload_of k).run)
+run_test_numbered : (k : Command) (v : ℕ) (p : List ℕ) (next : Outcome Fields) → numbered next ≡ true → numbered (when_run k v p next) ≡ true
+run_test_numbered k v p next h = go (is_any (payload_of k).run)
   where
     len : ℕ
     len = length p - prefix_length k
@@ -66,7 +66,7 @@ unfolding read_run
 behind_version k v p =
     let fields = read_fields k (numbered_by (length p)) p in
     length_numbered (leb (prefix_length k) (length p)) k (prefix_length k) p (when_run k v p fields)
-    (run_numbered k v p fields (fields_numbered k (numbered_by (length p)) p))
+    (run_test_numbered k v p fields (fields_numbered k (numbered_by (length p)) p))
 
 payload_numbered : (k : Command) (p : List ℕ) → numbered (read_payload k p) ≡ true
 payload_numbered k p = go (carries_run k)

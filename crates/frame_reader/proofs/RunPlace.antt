@@ -104,8 +104,8 @@ module _ (bytes : List ℕ) (r : Record) (h : gives r ≡ read_record bytes) whe
           rw (c, p, length_payload bytes r (tested bytes r (sym h))) (omega (arith, prefix_fits))
       go false c = rw c
 
-  pub run_within : place_in r + length (run_in r bytes) ≤ length bytes
-  run_within = go (carries_run r.command) refl
+  pub run_inside_frame : place_in r + length (run_in r bytes) ≤ length bytes
+  run_inside_frame = go (carries_run r.command) refl
     where
       go : (t : Bool) → carries_run r.command ≡ t → place_in r + length (run_in r bytes) ≤ length bytes
       go true c = rw (← run_length_is, c) (omega (arith, prefix_fits))
@@ -146,8 +146,8 @@ run_read bytes x h =
     ∙ run_lies_there bytes x.frame p.found ∙ rw (← p.found)
 
 -- a frame that is refused has no run: its place is 0, and it has no bytes
-pub no_run : (bytes : List ℕ) (e : Refusal) → refusal e ≡ read_located bytes → (run_place bytes ≡ 0) × (run_of bytes ≡ [])
-no_run bytes e h = go (read_record bytes) refl h
+pub refused_has_no_run : (bytes : List ℕ) (e : Refusal) → refusal e ≡ read_located bytes → (run_place bytes ≡ 0) × (run_of bytes ≡ [])
+refused_has_no_run bytes e h = go (read_record bytes) refl h
   where
     go : (o : Outcome Record) → read_record bytes ≡ o → refusal e ≡ and_then o (λ r. gives (with_place bytes r)) → (run_place bytes ≡ 0) × (run_of bytes ≡ [])
     go (gives r) i g = absurd (given_not_refused (with_place bytes r) _ _ g)

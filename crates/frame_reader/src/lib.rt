@@ -95,7 +95,7 @@ pub fn parse(bytes: &[u8]) -> Result<FrameHead, Refusal>
 }
 
 // Where the run of an accepted frame of so many bytes lies: behind the header's seven bytes and the prefix, up to the closing F7.
-fn place_of(frame: Record, len: usize) -> Place
+fn locate_run(frame: Record, len: usize) -> Place
     requires { 8 + length (field_list frame.command frame.fields.has_pattern) ≤ len }
     ensures { (result.start ≡ place_in frame) × (result.len ≡ pick (carries_run frame.command) (len - 1 - place_in frame) 0) }
 {
@@ -115,7 +115,7 @@ pub fn read_located(bytes: &[u8]) -> Result<Located, Refusal>
     ensures { answered result ≡ read_located bytes.now }
 {
     let frame = read_record(bytes)?;
-    let run = place_of(frame, bytes.len());
+    let run = locate_run(frame, bytes.len());
     Ok(Located { frame, run })
 }
 

@@ -41,12 +41,12 @@ fn early_len(command: Command) -> usize
 
 // A payload and the command that it stands behind.
 #[derive(Clone, Copy)]
-struct Payload<'a> {
+struct CommandPayload<'a> {
     command: Command,
     bytes: &'a [u8],
 }
 
-impl Payload<'_> {
+impl CommandPayload<'_> {
     // The fields at its front.
     fn fields(self, numbered: bool) -> Fields
         ensures { result ≡ fields_at self.entry.command numbered self.entry.bytes.now }
@@ -126,7 +126,7 @@ impl Payload<'_> {
 pub fn read_payload(command: Command, payload: &[u8]) -> Result<Fields, Refusal>
     ensures { answered result ≡ read_payload command payload.now }
 {
-    let of_command = Payload {
+    let of_command = CommandPayload {
         command,
         bytes: payload,
     };

@@ -13,7 +13,7 @@ use Rattle.laws.specs.Choice.{pick}
 use Rattle.refusal.specs.declared.Refusal.TheVariants as r
 use Rattle.refusal.specs.Outcome.{gives, Writes}
 use Rattle.refusal.proofs.Given.{passed_on}
-use Rattle.refusal.proofs.Written.{counted_first, stopped, went_on}
+use Rattle.refusal.proofs.Written.{counted_first, refused_untouched, went_on}
 use Rattle.ids.specs.declared.device.DeviceId.{DeviceId}
 use Rattle.ids.specs.Device.{device_byte}
 use Rattle.command.specs.declared.Command.{Command}
@@ -77,7 +77,7 @@ module _ (d : DeviceId) (k : Command) (f own : Fields) (run out : List ℕ) (n l
       (counted_first (length_for k (length (prefix_of k f)) (length run)) _ n a out later (counted ∙ ap (λ (l : ℕ). length_for k l (length run)) long) w)
 
   pub fields_no_room : length out < n → Writes (fields_write d k f run (length out)) (Err (r.BufferTooSmall n (length out))) out out
-  fields_no_room less = in_room _ out (stopped (leb n (length out)) (r.BufferTooSmall n (length out)) _ out (lt-leb n (length out) less))
+  fields_no_room less = in_room _ out (refused_untouched (leb n (length out)) (r.BufferTooSmall n (length out)) _ out (lt-leb n (length out) less))
 
   pub fields_written : (prefix rest : List ℕ) (a : Result ℕ Refusal) (later : List ℕ) → n ≤ length out → prefix ≡ prefix_of k f → rest ≡ own_run k run
       → Writes (seven_bit_write d k prefix rest) a out later → Writes (fields_write d k f run (length out)) a out later
@@ -85,10 +85,3 @@ module _ (d : DeviceId) (k : Command) (f own : Fields) (run out : List ℕ) (n l
       in_room a later
       (went_on (leb n (length out)) 14 (n ∷ length out ∷ []) _ a out later (le-leb n (length out) room)
       (subst (λ (x : List ℕ). Writes (seven_bit_write d k x (own_run k run)) a out later) p (subst (λ (x : List ℕ). Writes (seven_bit_write d k prefix x) a out later) q w)))
-
--- a command and its fields in two ways of saying
-pub same_fields : (d : DeviceId) (k l : Command) (f g : Fields) (run out later : List ℕ) (a : Result ℕ Refusal) → k ≡ l → f ≡ g
-    → Writes (fields_write d k f run (length out)) a out later → Writes (fields_write d l g run (length out)) a out later
-same_fields d k l f g run out later a p q w =
-    subst (λ (x : Command). Writes (fields_write d x g run (length out)) a out later) p
-    (subst (λ (x : Fields). Writes (fields_write d k x run (length out)) a out later) q w)

@@ -35,7 +35,7 @@ use Rattle.frames.specs.Lengths.{listed, lengths_of, pattern_alone, pattern_numb
 use Rattle.frames.specs.Table.{prefix_in, Described}
 use Rattle.frames.proofs.RunLengths.{pattern_alone_printed, pattern_numbered_printed, length_passes, run_table}
 use Rattle.frames.proofs.BodyLow.{device_low, code_low, row_body_low}
-use Rattle.frames.proofs.RoundTrip.{fit_front, prefix_back, run_back, same_row, payload_low, fields_fit}
+use Rattle.frames.proofs.RoundTrip.{fit_front, prefix_back, run_back, row_again, payload_low, fields_fit}
 use Rattle.frames.proofs.Complete.{accepted_if_tested}
 
 -- the fields ahead of a run: a pattern's number counts where it is there
@@ -89,7 +89,7 @@ module _ (bytes : List ℕ) (r : Record) (d : Tested bytes r) where
   described_if_tested : Described bytes r (run_in r bytes)
   described_if_tested =
       record {
-        is = sym (same_row bytes r d) ∙ ap (λ (l : List ℕ). row (device_byte r.device) (code_of r.command) (prefix_in r) l) own_run_is;
+        is = sym (row_again bytes r d) ∙ ap (λ (l : List ℕ). row (device_byte r.device) (code_of r.command) (prefix_in r) l) own_run_is;
         device = (read_device_in_range (get_or bytes 5 0) r.device d.device).1;
         fits = fields_fit bytes r d;
         own = own_fields;
@@ -164,8 +164,8 @@ module _ (bytes : List ℕ) (r : Record) (run : List ℕ) (d : Described bytes r
       list_length r.command r.fields.has_pattern ∙ ap (λ (b : Bool). prefix_length r.command + flag b) (sym own_flag) in
       omega (arith, length-append (prefix_in r) run, prefix_long, list)
 
-  number_is : (optional r.command && numbered_by (length (prefix_in r ++ run))) ≡ r.fields.has_pattern
-  number_is = split (optional r.command) at_pattern elsewhere
+  number_flag_is : (optional r.command && numbered_by (length (prefix_in r ++ run))) ≡ r.fields.has_pattern
+  number_flag_is = split (optional r.command) at_pattern elsewhere
     where
       at_pattern : optional r.command ≡ true → (optional r.command && numbered_by (length (prefix_in r ++ run))) ≡ r.fields.has_pattern
       at_pattern o =
@@ -181,8 +181,8 @@ module _ (bytes : List ℕ) (r : Record) (run : List ℕ) (d : Described bytes r
           ap (λ (t : Bool). t && numbered_by (length (prefix_in r ++ run))) o ∙ sym (own_flag ∙ ap (λ (t : Bool). t && r.fields.has_pattern) o)
 
   -- the fields that the payload is read by are the record's
-  same_fields : field_list r.command (numbered_by (length (prefix_in r ++ run))) ≡ field_list r.command r.fields.has_pattern
-  same_fields = sym (same_list r.command (numbered_by (length (prefix_in r ++ run)))) ∙ ap (field_list r.command) number_is
+  field_list_kept : field_list r.command (numbered_by (length (prefix_in r ++ run))) ≡ field_list r.command r.fields.has_pattern
+  field_list_kept = sym (same_list r.command (numbered_by (length (prefix_in r ++ run)))) ∙ ap (field_list r.command) number_flag_is
 
   front : (i : ℕ) → i < length (field_list r.command r.fields.has_pattern) → get_or (prefix_in r) i 0 ≡ get_or (prefix_in r ++ run) i 0
   front i h = sym (get_or-append (prefix_in r) run 0 i (omega (arith, prefix_long)))
@@ -192,7 +192,7 @@ module _ (bytes : List ℕ) (r : Record) (run : List ℕ) (d : Described bytes r
       let l = field_list r.command r.fields.has_pattern in
       d.own
       ∙ fields_same l (optional r.command && r.fields.has_pattern) (prefix_in r) (prefix_in r ++ run) (length l) (omega arith) front
-      ∙ ap₂ (λ (x : List Field) (h : Bool). fields_in x h (prefix_in r ++ run)) (sym same_fields) (sym own_flag ∙ sym number_is)
+      ∙ ap₂ (λ (x : List Field) (h : Bool). fields_in x h (prefix_in r ++ run)) (sym field_list_kept) (sym own_flag ∙ sym number_flag_is)
 
   passes_too : length_passes r.command (get_or (prefix_in r ++ run) 0 0) (length (prefix_in r ++ run)) ≡ true
   passes_too =
@@ -200,14 +200,14 @@ module _ (bytes : List ℕ) (r : Record) (run : List ℕ) (d : Described bytes r
       let count : n - prefix_length r.command ≡ flag r.fields.has_pattern + length run = omega (arith, size) in
       sym (passes_by_version r.command r.fields (numbered_by n) (prefix_in r ++ run) n says)
       ∙ run_table r.command r.fields.version n (omega (arith, size))
-      ∙ ap₂ (λ (h : Bool) (x : ℕ). listed (lengths_of r.command r.fields.version h) x) number_is count
+      ∙ ap₂ (λ (h : Bool) (x : ℕ). listed (lengths_of r.command r.fields.version h) x) number_flag_is count
       ∙ d.long
 
   payload_passes : TestedPayload r.command (prefix_in r ++ run) r.fields
   payload_passes =
       record {
         says = says;
-        fits = ap (λ (l : List Field). all_fit l (prefix_in r ++ run) 0) same_fields
+        fits = ap (λ (l : List Field). all_fit l (prefix_in r ++ run) 0) field_list_kept
             ∙ fit_front (field_list r.command r.fields.has_pattern) (prefix_in r) (prefix_in r ++ run) 0
             (length (field_list r.command r.fields.has_pattern)) (omega arith) front d.fits;
         long = omega (arith, size);

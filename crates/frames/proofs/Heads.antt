@@ -68,8 +68,8 @@ fields_back k.ChordMemoryDumpResponse b p h = refl
 fields_back k.PolyChordMemoryDumpRequest b p h = refl
 fields_back k.PolyChordMemoryDumpResponse b p h = refl
 
-same_fields : (bytes : List ℕ) (r : Record) → Tested bytes r → fields_of (frame_of r).head ≡ r.fields
-same_fields bytes r d =
+head_fields : (bytes : List ℕ) (r : Record) → Tested bytes r → fields_of (frame_of r).head ≡ r.fields
+head_fields bytes r d =
     let b : Bool = numbered_by (length (payload bytes)) in
     ap (λ (f : Fields). fields_of (head_from r.command f)) d.says.says ∙ fields_back r.command b (payload bytes) d.says.fits ∙ sym d.says.says
 
@@ -83,7 +83,7 @@ frame_written_again bytes x room e real fits =
     let same : frame_of r ≡ x = cc in
     let fields : fields_write r.device (command_of_head (frame_of r).head) (fields_of (frame_of r).head) (run_of bytes) room ≡ fields_write r.device
     r.command r.fields (run_of bytes) room =
-    ap₂ (λ (c : Command) (f : Fields). fields_write r.device c f (run_of bytes) room) (command_back r.command r.fields) (same_fields bytes r d) in
+    ap₂ (λ (c : Command) (f : Fields). fields_write r.device c f (run_of bytes) room) (command_back r.command r.fields) (head_fields bytes r d) in
     subst (λ (z : FrameHead). frame_write z (run_of bytes) room ≡ gives bytes) same
     (ap (λ (o : Outcome (List ℕ)). when_device r.device o) fields
     ∙ rw (code_reads_back r.command) at (fields_written_again bytes r room g.1 real fits))

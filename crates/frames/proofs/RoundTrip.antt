@@ -41,13 +41,13 @@ front_spelled p n h =
 abbrev wire_of : Bool → List ℕ → Command → List ℕ
 wire_of b p c = wire true (field_list c b) (fields_at c b p)
 
-abbrev front_of : Bool → List ℕ → Command → List ℕ
-front_of b p c = tab (λ i. get_or p i 0) (length (field_list c b))
+abbrev first_bytes : Bool → List ℕ → Command → List ℕ
+first_bytes b p c = tab (λ i. get_or p i 0) (length (field_list c b))
 
 -- fields that were read from bytes are written as these bytes
-wire_back : (c : Command) (b : Bool) (p : List ℕ) → wire_of b p c ≡ front_of b p c
-wire_back c true p = same_at_every (wire_of true p) (front_of true p) refl c
-wire_back c false p = same_at_every (wire_of false p) (front_of false p) refl c
+wire_back : (c : Command) (b : Bool) (p : List ℕ) → wire_of b p c ≡ first_bytes b p c
+wire_back c true p = same_at_every (wire_of true p) (first_bytes true p) refl c
+wire_back c false p = same_at_every (wire_of false p) (first_bytes false p) refl c
 
 -- a command without a run has no number to count
 exact_list : (c : Command) (b : Bool) → carries_run c ≡ false → length (field_list c b) ≡ prefix_length c
@@ -119,8 +119,8 @@ module _ (bytes : List ℕ) (r : Record) (d : Tested bytes r) where
       front_spelled bytes 7 (omega (arith, d.long)) ∙ rw (b0, b1, b2, b3, b4, ← b5, ← b6)
 
   -- read and written again: the same bytes
-  pub same_row : row (device_byte r.device) (code_of r.command) (prefix_of r.command r.fields) (own_run r.command (run_in r bytes)) ≡ bytes
-  same_row =
+  pub row_again : row (device_byte r.device) (code_of r.command) (prefix_of r.command r.fields) (own_run r.command (run_in r bytes)) ≡ bytes
+  row_again =
       let h : List ℕ = header (device_byte r.device) (code_of r.command) in
       let cut : ℕ = length (field_list r.command r.fields.has_pattern) in
       ap₂ (λ (x z : List ℕ). h ++ (x ++ (z ++ (0xF7 ∷ [])))) prefix_back run_back
@@ -163,11 +163,11 @@ fields_written_again bytes r room e real fits =
     let pre : List ℕ = prefix_of c r.fields in
     let ok : device_in_range r.device ≡ true = (read_device_in_range (get_or bytes 5 0) r.device d.device).1 in
     let long : length (row (device_byte r.device) (code_of c) pre (own_run c run)) ≡ 8 + (length pre + length (own_run c run)) = simp length-append (omega arith) in
-    let whole : length (row (device_byte r.device) (code_of c) pre (own_run c run)) ≡ length bytes = ap length (same_row bytes r d) in
+    let whole : length (row (device_byte r.device) (code_of c) pre (own_run c run)) ≡ length bytes = ap length (row_again bytes r d) in
     let size : 8 + length pre + pick (carries_run c) (length run) 0 ≡ length bytes = counts (carries_run c) (length pre) run (length bytes) (omega (arith, long, whole)) in
     rw
     (ok, code_reads_back c, fields_pass bytes r d, e, size, lt-ltb (length bytes) (2 ^ 64) real, le-leb (length bytes) room fits, payload_low bytes r d)
-    (ap (λ (l : List ℕ). gives l) (same_row bytes r d))
+    (ap (λ (l : List ℕ). gives l) (row_again bytes r d))
   where
     counts : (t : Bool) (a : ℕ) (run : List ℕ) (total : ℕ) → 8 + (a + length (pick t run [])) ≡ total → 8 + a + pick t (length run) 0 ≡ total
     counts true a run total h = omega arith

@@ -20,8 +20,8 @@ module _ (keys : List (List ℕ)) where
   abbrev pub NoneBelow : ℕ → Type 0
   NoneBelow n = (i : ℕ) → i < n → is_held keys (i / 128) (i % 128) ≡ false
 
-  one_more : (n : ℕ) → is_held keys (n / 128) (n % 128) ≡ false → NoneBelow n → NoneBelow (suc n)
-  one_more n e none i h =
+  none_below_next : (n : ℕ) → is_held keys (n / 128) (n % 128) ≡ false → NoneBelow n → NoneBelow (suc n)
+  none_below_next n e none i h =
       split (ltb i n) (λ (t : ltb i n ≡ true). none i (ltb-true i n t))
       (λ (t : ltb i n ≡ false).
       let same : i ≡ n = omega (arith, ltb-false i n t) in
@@ -35,15 +35,15 @@ module _ (keys : List (List ℕ)) where
       ap₂ (λ (x y : ℕ). is_held keys x y) channel key
 
   pub passed_key : (c k : ℕ) → k < 128 → is_held keys c k ≡ false → NoneBelow (128 * c + k) → NoneBelow (128 * c + (k + 1))
-  passed_key c k small e none i h = one_more (128 * c + k) (there c k small ∙ e) none i (omega arith)
+  passed_key c k small e none i h = none_below_next (128 * c + k) (there c k small ∙ e) none i (omega arith)
 
   -- the search passes keys that are not held
-  passed : (n : ℕ) (later : List (ℕ × ℕ)) → NoneBelow n → first_of keys (tab (λ i. (i / 128, i % 128)) n ++ later) ≡ first_of keys later
+  past_unheld : (n : ℕ) (later : List (ℕ × ℕ)) → NoneBelow n → first_of keys (tab (λ i. (i / 128, i % 128)) n ++ later) ≡ first_of keys later
   unfolding first_of
-  passed zero later none = refl
-  passed (suc n) later none =
+  past_unheld zero later none = refl
+  past_unheld (suc n) later none =
       ap (λ (l : List (ℕ × ℕ)). first_of keys l) (append_snoc (tab (λ i. (i / 128, i % 128)) n) (n / 128, n % 128) later)
-      ∙ passed n ((n / 128, n % 128) ∷ later) (λ i h. none i (omega arith))
+      ∙ past_unheld n ((n / 128, n % 128) ∷ later) (λ i h. none i (omega arith))
       ∙ (rw (none n (omega arith)))
 
   -- the search ends at the first held key
@@ -56,7 +56,7 @@ module _ (keys : List (List ℕ)) where
       ap (λ (m : ℕ). first_of keys (tab place m)) all
       ∙ ap (λ (l : List (ℕ × ℕ)). first_of keys l)
       (tab_add place (n + 1) (2047 - n) ∙ ap (λ (l : List (ℕ × ℕ)). l ++ rest) (tab_more place n) ∙ append_snoc (tab place n) (place n) rest)
-      ∙ passed n (place n ∷ rest) none
+      ∙ past_unheld n (place n ∷ rest) none
       ∙ (rw e)
 
   pub found_key : (c k : ℕ) → c < 16 → k < 128 → NoneBelow (128 * c + k) → is_held keys c k ≡ true → first_held keys ≡ Some (c, k)
@@ -70,7 +70,7 @@ module _ (keys : List (List ℕ)) where
   unfolding every_key first_of
   found_none none =
       let place : ℕ → ℕ × ℕ = λ i. (i / 128, i % 128) in
-      ap (λ (l : List (ℕ × ℕ)). first_of keys l) (sym (append-nil (tab place 2048))) ∙ passed 2048 [] none
+      ap (λ (l : List (ℕ × ℕ)). first_of keys l) (sym (append-nil (tab place 2048))) ∙ past_unheld 2048 [] none
 
   -- a held key with none below it on its channel and none on any lower channel
   pub record Lowest : Type 0 where
@@ -87,8 +87,8 @@ module _ (keys : List (List ℕ)) where
   NoneHeld = (c k : ℕ) → c < 16 → k < 128 → is_held keys c k ≡ false
 
   -- a key that stands ahead of place n is not held
-  ahead : (n c k : ℕ) → NoneBelow n → 128 * c + k < n → k < 128 → is_held keys c k ≡ false
-  ahead n c k none h small = sym (there c k small) ∙ none (128 * c + k) h
+  not_held_ahead : (n c k : ℕ) → NoneBelow n → 128 * c + k < n → k < 128 → is_held keys c k ≡ false
+  not_held_ahead n c k none h small = sym (there c k small) ∙ none (128 * c + k) h
 
   look : (n : ℕ) → n ≤ 2048 → Lowest ⊎ NoneBelow n
   look zero h = inr (λ i b. absurd (omega arith))
@@ -110,11 +110,11 @@ module _ (keys : List (List ℕ)) where
             key = k;
             small = (omega arith, omega arith);
             is = t;
-            below = λ j b. ahead n c j none (omega arith) (omega arith);
-            lower = λ d j b s. ahead n d j none (omega arith) s;
+            below = λ j b. not_held_ahead n c j none (omega arith) (omega arith);
+            lower = λ d j b s. not_held_ahead n d j none (omega arith) s;
             says = found n (omega arith) none t;
           }))
-          (λ (t : is_held keys c k ≡ false). inr (one_more n t none))
+          (λ (t : is_held keys c k ≡ false). inr (none_below_next n t none))
 
   -- the search answers the lowest held key, or none, and then no key is held
   pub first_is_lowest : Lowest ⊎ (NoneHeld × (first_held keys ≡ None))
@@ -122,4 +122,4 @@ module _ (keys : List (List ℕ)) where
     where
       go : Lowest ⊎ NoneBelow 2048 → Lowest ⊎ (NoneHeld × (first_held keys ≡ None))
       go (inl x) = inl x
-      go (inr none) = inr ((λ c k hc hk. ahead 2048 c k none (omega arith) hk), found_none none)
+      go (inr none) = inr ((λ c k hc hk. not_held_ahead 2048 c k none (omega arith) hk), found_none none)

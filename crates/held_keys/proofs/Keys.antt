@@ -51,9 +51,9 @@ module _ (keys : List (List ℕ)) (ch key word : ℕ) (v : Bool) (inside : ch < 
       let w : k / 64 ≡ key / 64 → ⊥ = eqb-false (k / 64) (key / 64) f in
       rw (get_or-set_other (get_or keys ch []) (key / 64) (k / 64) word 0 w, ne_eqb k key (λ q. w (ap (λ (x : ℕ). x / 64) q)))
 
-  pub held_stored : (c k : ℕ) → is_held (stored_word keys ch (key / 64) word) c k ≡ pick (eqb c ch) (pick (eqb k key) v (is_held keys c k)) (is_held keys c k)
+  pub held_after_word : (c k : ℕ) → is_held (stored_word keys ch (key / 64) word) c k ≡ pick (eqb c ch) (pick (eqb k key) v (is_held keys c k)) (is_held keys c k)
   unfolding is_held
-  held_stored c k = go (eqb c ch) refl
+  held_after_word c k = go (eqb c ch) refl
     where
       go : (t : Bool) → eqb c ch ≡ t
           → bit (get_or (get_or (stored_word keys ch (key / 64) word) c []) (k / 64) 0) (k % 64)
@@ -104,7 +104,7 @@ module _ (keys : List (List ℕ)) (p : Shaped keys) (ch key : ℕ) (m : ChannelM
   changed_word word v small bits changed does =
       let room : ch < length keys = omega (arith, p.channels) in
       afterwards_is keys ch m (stored_word keys ch (key / 64) word) inside (stored_shaped keys ch key word v room (p.words ch inside) small changed p bits)
-      (λ c k. held_stored keys ch key word v room (p.words ch inside) small changed c k ∙ (rw (does k (is_held keys c k))))
+      (λ c k. held_after_word keys ch key word v room (p.words ch inside) small changed c k ∙ (rw (does k (is_held keys c k))))
 
   pub hold_after : effect_of m ≡ e.Hold key → stored_word keys ch (key / 64) (bit_or old_word (1 * 2 ^ (key % 64) % 2 ^ 64)) ≡ record_after keys ch m
   hold_after is =

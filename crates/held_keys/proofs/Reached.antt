@@ -63,10 +63,10 @@ module _ (held : ℕ → ℕ → Bool) (j : ℕ) (c k : ℕ) (channel : c < 16) 
       let y : k ≡ j % 128 = omega arith in
       ap₂ held x y
 
-  one_more : (earlier : List KeyCall) → is_held (after_calls earlier) c k ≡ (ltb (c * 128 + k) j && held c k) → (t : Bool) → held (j / 128) (j % 128) ≡ t
+  place_more : (earlier : List KeyCall) → is_held (after_calls earlier) c k ≡ (ltb (c * 128 + k) j && held c k) → (t : Bool) → held (j / 128) (j % 128) ≡ t
       → is_held (after_calls (pick t ((j / 128, m.NoteOn (j % 128) 64) ∷ earlier) earlier)) c k ≡ (ltb (c * 128 + k) (suc j) && held c k)
   unfolding after_calls
-  one_more earlier before true e =
+  place_more earlier before true e =
       held_afterwards (after_calls earlier) (j / 128) (m.NoteOn (j % 128) 64) c k channel key
       ∙ split (eqb (c * 128 + k) j)
       (λ (t : eqb (c * 128 + k) j ≡ true).
@@ -75,7 +75,7 @@ module _ (held : ℕ → ℕ → Bool) (j : ℕ) (c k : ℕ) (channel : c < 16) 
       (λ (f : eqb (c * 128 + k) j ≡ false).
       let other : c * 128 + k ≡ j → ⊥ = eqb-false (c * 128 + k) j f in
       pressed_elsewhere (after_calls earlier) 64 other ∙ before ∙ ap (λ (x : Bool). x && held c k) (below_next (c * 128 + k) j other))
-  one_more earlier before false e =
+  place_more earlier before false e =
       before
       ∙ split (eqb (c * 128 + k) j)
       (λ (t : eqb (c * 128 + k) j ≡ true).
@@ -85,14 +85,14 @@ module _ (held : ℕ → ℕ → Bool) (j : ℕ) (c k : ℕ) (channel : c < 16) 
       (λ (f : eqb (c * 128 + k) j ≡ false). ap (λ (x : Bool). x && held c k) (below_next (c * 128 + k) j (eqb-false (c * 128 + k) j f)))
 
 -- the notes on for the first n places hold just those of them that are held
-first_places : (held : ℕ → ℕ → Bool) (n c k : ℕ) → c < 16 → k < 128 → is_held (after_calls (presses held n)) c k ≡ (ltb (c * 128 + k) n && held c k)
+presses_hold : (held : ℕ → ℕ → Bool) (n c k : ℕ) → c < 16 → k < 128 → is_held (after_calls (presses held n)) c k ≡ (ltb (c * 128 + k) n && held c k)
 unfolding after_calls
-first_places held zero c k hc hk = none_held 16 c k ∙ sym (ap (λ (t : Bool). t && held c k) (le-ltb (c * 128 + k) 0 (omega arith)))
-first_places held (suc j) c k hc hk = one_more held j c k hc hk (presses held j) (first_places held j c k hc hk) (held (j / 128) (j % 128)) refl
+presses_hold held zero c k hc hk = none_held 16 c k ∙ sym (ap (λ (t : Bool). t && held c k) (le-ltb (c * 128 + k) 0 (omega arith)))
+presses_hold held (suc j) c k hc hk = place_more held j c k hc hk (presses held j) (presses_hold held j c k hc hk) (held (j / 128) (j % 128)) refl
 
 -- the notes on for all places hold just the record's keys, and so make the very record
 pub every_record_is_reached : (keys : List (List ℕ)) → Shaped keys → after_calls (presses (is_held keys) 2048) ≡ keys
 every_record_is_reached keys p =
     record_known (after_calls (presses (is_held keys) 2048)) keys (calls_shaped (presses (is_held keys) 2048)) p
     (λ c k hc hk.
-    first_places (is_held keys) 2048 c k hc hk ∙ ap (λ (t : Bool). t && is_held keys c k) (lt-ltb (c * 128 + k) 2048 (omega arith)))
+    presses_hold (is_held keys) 2048 c k hc hk ∙ ap (λ (t : Bool). t && is_held keys c k) (lt-ltb (c * 128 + k) 2048 (omega arith)))

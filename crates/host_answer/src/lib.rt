@@ -90,7 +90,7 @@ pub fn read_byte<T: OfByte>(byte: u8) -> Answer
 }
 
 // A device from its two numbers, everyone, 0 or 1, and the unit: they stay two because C has them so.
-pub fn device_of(everyone: u8, unit: u8) -> DeviceId
+pub fn device_from(everyone: u8, unit: u8) -> DeviceId
     ensures { result ≡ device_from everyone unit }
 {
     if everyone == 0 {
@@ -106,7 +106,7 @@ pub fn device_named(everyone: u8, unit: u8) -> Option<DeviceId>
     if 1 < everyone {
         return None;
     }
-    Some(device_of(everyone, unit))
+    Some(device_from(everyone, unit))
 }
 
 // Whether a device is everyone, as a number.

@@ -36,9 +36,9 @@ fields_again : (f : Fields)
     → fields_from f.free f.version f.bank f.program f.last f.pattern (flag f.has_pattern) f.interface f.rx f.tx ≡ f
 fields_again f = rw (flag_again f.has_pattern)
 
-flag_fits : (command : ℕ) (b : Bool) → pattern_flag_fits command (flag b) ≡ true
-flag_fits command true = refl
-flag_fits command false = refl
+told_flag_fits : (command : ℕ) (b : Bool) → pattern_flag_fits command (flag b) ≡ true
+told_flag_fits command true = refl
+told_flag_fits command false = refl
 
 -- what dm_frame_write is asked for where it is handed what was told of these bytes: whether the flags name a record, and what it writes
 abbrev flags_told : ReadAnswer → Bool
@@ -54,7 +54,7 @@ module _ (bytes : List ℕ) (r : Record) (e : read_record bytes ≡ gives r) whe
   flags_name : flags_told (read_answer (read_record bytes) bytes) ≡ true
   flags_name =
       ap (λ (o : Outcome Record). flags_told (read_answer o bytes)) e
-      ∙ and_true _ _ (le-leb (everyone_of r.device) 1 (everyone_is_a_flag r.device)) (flag_fits (code_of r.command) r.fields.has_pattern)
+      ∙ and_true _ _ (le-leb (everyone_of r.device) 1 (everyone_is_a_flag r.device)) (told_flag_fits (code_of r.command) r.fields.has_pattern)
 
   told_is_written : (room : ℕ) → length bytes < 2 ^ 64 → length bytes ≤ room → sent_again (read_answer (read_record bytes) bytes) bytes room ≡ gives bytes
   told_is_written room real fits =

@@ -13,22 +13,22 @@ use Rattle.command.specs.Payload as y
 use Rattle.message.specs.Prefix.{field_ok}
 
 -- said once: to test, or to make what is tested and go on
-tested : {A B : Type 0} (t : Bool) (number : ℕ) (b : ℕ) (made : A) (next : Outcome B)
+test_or_make : {A B : Type 0} (t : Bool) (number : ℕ) (b : ℕ) (made : A) (next : Outcome B)
     → unless t number (b ∷ []) next ≡ and_then (unless t number (b ∷ []) (gives made)) (λ _. next)
-tested true number b made next = refl
-tested false number b made next = refl
+test_or_make true number b made next = refl
+test_or_make false number b made next = refl
 
 pub version_range : {A : Type 0} (b : ℕ) (next : Outcome A) → field_ok y.version b next ≡ and_then (version_of b) (λ _. next)
-version_range b next = tested (eqb b 6 || eqb b 7) 8 b (record { 0 = b }) next
+version_range b next = test_or_make (eqb b 6 || eqb b 7) 8 b (record { 0 = b }) next
 
 pub bank_range : {A : Type 0} (b : ℕ) (next : Outcome A) → field_ok y.bank b next ≡ and_then (bank_of b) (λ _. next)
-bank_range b next = tested (ltb b 8) 9 b (record { 0 = b }) next
+bank_range b next = test_or_make (ltb b 8) 9 b (record { 0 = b }) next
 
 pub program_range : {A : Type 0} (b : ℕ) (next : Outcome A) → field_ok y.program b next ≡ and_then (program_of b) (λ _. next)
-program_range b next = tested (ltb b 128) 10 b (record { 0 = b }) next
+program_range b next = test_or_make (ltb b 128) 10 b (record { 0 = b }) next
 
 pub pattern_range : {A : Type 0} (b : ℕ) (next : Outcome A) → field_ok y.pattern b next ≡ and_then (pattern_of b) (λ _. next)
-pattern_range b next = tested (ltb b 32) 11 b (record { 0 = b }) next
+pattern_range b next = test_or_make (ltb b 32) 11 b (record { 0 = b }) next
 
 pub interface_range : {A : Type 0} (b : ℕ) (next : Outcome A) → field_ok y.interface b next ≡ and_then (interface_of b) (λ _. next)
-interface_range b next = tested (ltb b 3) 12 b (interface_at b) next
+interface_range b next = test_or_make (ltb b 3) 12 b (interface_at b) next

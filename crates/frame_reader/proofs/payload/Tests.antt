@@ -83,9 +83,9 @@ pub run_accepted : (c : Command) (v : ℕ) (p : List ℕ) → prefix_length c �
     → accepted (raw_length_for c v) (length p - prefix_length c) ≡ true → read_run c v p ≡ read_fields c false p
 run_accepted c v p h n e = named_run c v p true h n e ∙ numbered_off c v p e
 
-pub run_numbered : (c : Command) (v : ℕ) (p : List ℕ) → prefix_length c ≤ length p → (code_of c ≡ 0x12 → ⊥)
+pub run_with_number : (c : Command) (v : ℕ) (p : List ℕ) → prefix_length c ≤ length p → (code_of c ≡ 0x12 → ⊥)
     → accepted (raw_length_for c v) (length p - prefix_length c) ≡ false → code_of c ≡ 0x08 → numbered_by (length p) ≡ true → read_run c v p ≡ read_fields c true p
-run_numbered c v p h n e o b = named_run c v p false h n e ∙ rw (eq-eqb (code_of c) 0x08 o, b)
+run_with_number c v p h n e o b = named_run c v p false h n e ∙ rw (eq-eqb (code_of c) 0x08 o, b)
 
 pub run_refused : (c : Command) (v : ℕ) (p : List ℕ) → prefix_length c ≤ length p → (code_of c ≡ 0x12 → ⊥)
     → accepted (raw_length_for c v) (length p - prefix_length c) ≡ false → (optional c && numbered_by (length p)) ≡ false

@@ -90,8 +90,8 @@ pub version_first : (k : Command) (b : Bool) (p : List ℕ) → carries_run k �
 version_first k b p h = rw (version_comes_first k b h)
 
 -- a command's fields tested in wire order, and by kind
-abbrev in_order : Bool → List ℕ → Command → Outcome Fields
-in_order b p k = checked (field_list k b) p 0 (gives (fields_at k b p))
+abbrev wire_order : Bool → List ℕ → Command → Outcome Fields
+wire_order b p k = checked (field_list k b) p 0 (gives (fields_at k b p))
 
 abbrev by_kind : Bool → List ℕ → Command → Outcome Fields
 by_kind b p k =
@@ -101,5 +101,5 @@ by_kind b p k =
 pub checked_by_kind : (k : Command) (b : Bool) (p : List ℕ)
     → checked (field_list k b) p 0 (gives (fields_at k b p))
     ≡ pick (carries_run k) (field_ok y.version (fields_at k b p).version (small_checked (fields_at k b p))) (small_checked (fields_at k b p))
-checked_by_kind k true p = same_at_every (in_order true p) (by_kind true p) refl k
-checked_by_kind k false p = same_at_every (in_order false p) (by_kind false p) refl k
+checked_by_kind k true p = same_at_every (wire_order true p) (by_kind true p) refl k
+checked_by_kind k false p = same_at_every (wire_order false p) (by_kind false p) refl k

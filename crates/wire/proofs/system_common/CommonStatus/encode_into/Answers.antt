@@ -1,5 +1,5 @@
 -- `CommonStatus::encode_into` meets its contract: 21 first; then it hands the message's own bytes to `put`.
-use Rattle.refusal.proofs.Written.{went_on, same_bytes}
+use Rattle.refusal.proofs.Written.{went_on, writes_equal_bytes}
 use Rattle.wire.proofs.system_common.Bytes.{masked_common_in_range, common_length}
 use Rattle.wire.specs.SystemCommon.{common_bytes, common, common_in_range}
 use lib.ListN.{take}
@@ -30,4 +30,4 @@ returns c =
     let same : take l.result (s.result ∷ a.value % 128 ∷ a.value / 128 % 128 ∷ []) ≡ common_bytes (common a.self a.value) =
     rw (l.ensures, s.ensures) (masked_common_in_range a.self a.value fits) in
     went_on _ 21 (a.value ∷ []) _ p.result a.out.now p.new.out fits
-    (same_bytes _ _ p.result a.out.now p.new.out same p.ensures)
+    (writes_equal_bytes _ _ p.result a.out.now p.new.out same p.ensures)

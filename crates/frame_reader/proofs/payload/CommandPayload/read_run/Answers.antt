@@ -2,7 +2,7 @@
 use borrow.Author.Tests.{eqb-true, eqb-false}
 use Rattle.packed.specs.Packed.{unpacked_length}
 use Rattle.refusal.proofs.Given.{refused_too}
-use Rattle.frame_reader.proofs.payload.Tests.{fields_tested, run_too_short, any_run, run_accepted, run_numbered, run_refused}
+use Rattle.frame_reader.proofs.payload.Tests.{fields_tested, run_too_short, any_run, run_accepted, run_with_number, run_refused}
 use Rattle.frame_reader.specs.Payload.{prefix_length, accepted, numbered_by, read_run}
 use Rattle.message.specs.quick.Prefix.{small_checked}
 use Rattle.packed.proofs.Lengths.{unpacked_given}
@@ -21,8 +21,8 @@ use Prim.Native.Nat.{ℕ, ◌-◌, ◌≤◌, ◌%◌}
 use mathlib.Core.List.{[], ◌∷◌}
 use mathlib.Core.Bool.{true, false, not, ◌&&◌}
 use mathlib.Core.Path.{◌≡◌, ap, sym, ◌∙◌}
-use Rattle.frame_reader.proofs.payload.Payload.read_run.Goals as goal
-use Rattle.frame_reader.proofs.payload.Payload.read_run.Goals.{else-eq-2-via-then-eq-2+else-is_numbered, else-eq-2-via-else-eq-2}
+use Rattle.frame_reader.proofs.payload.CommandPayload.read_run.Goals as goal
+use Rattle.frame_reader.proofs.payload.CommandPayload.read_run.Goals.{else-eq-2-via-then-eq-2+else-is_numbered, else-eq-2-via-else-eq-2}
 
 pub returns-then-found-prefix : goal.returns-then-found-prefix
 returns-then-found-prefix c = let a = c.args in
@@ -80,7 +80,7 @@ returns-then-is_numbered c =
     let measured = eqb-false _ _ (sym (same_by_code a.self.command k.CalibrationDataDumpResponse) ∙ sym c.eq.ensures ∙ c.if-eq.false) in
     let pattern = eqb-true _ _ (sym (same_by_code a.self.command k.UserPatternDumpResponse) ∙ sym c.eq-2.ensures ∙ c.if-eq-2.true) in
     c.check_small-then-is_numbered.ensures ∙ ap small_checked c.fields-then-is_numbered.ensures ∙ sym (fields_tested a.self.command true p c.requires)
-    ∙ sym (run_numbered a.self.command a.version.0 p least measured is pattern (sym c.is_numbered.ensures ∙ c.if-is_numbered.true))
+    ∙ sym (run_with_number a.self.command a.version.0 p least measured is pattern (sym c.is_numbered.ensures ∙ c.if-is_numbered.true))
 
 pub returns : goal.returns
 returns c =
