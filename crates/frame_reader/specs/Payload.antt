@@ -57,10 +57,6 @@ when_run k v p next =
     pick (is_any (payload_of k).run) (unless (not (eqb ((length p - prefix_length k) % 8) 1)) 13 ((length p - prefix_length k) ∷ []) next)
     (when_length (accepted (raw_length_for k v) (length p - prefix_length k) || (optional k && numbered_by (length p))) k (prefix_length k + packed_length (raw_length_for k v)) p next)
 
--- "version (8)": the first byte of a dump's payload is 6 or 7
-abbrev pub version_in : List ℕ → Bool
-version_in p = eqb (get_or p 0 0) 6 || eqb (get_or p 0 0) 7
-
 -- behind the version v: "further prefix missing (7), run length (7; calibration 13), then b, p or pattern"
 unfoldable pub read_run : Command → ℕ → List ℕ → Outcome Fields
 read_run k v p =

@@ -1,11 +1,12 @@
 // Reads the payload of a frame: which run lengths are accepted, and the fields ahead of the run.
 ghost use Rattle.refusal.specs.Outcome.{answered};
-ghost use Rattle.std.specs.Prelude.{◌≡◌, true, false, length};
+ghost use Rattle.std.specs.Prelude.{◌≡◌, true, false, get_or, length};
 ghost use Rattle.command.specs.Command.{code_of};
 ghost use Rattle.refusal.specs.declared.Refusal.TheVariants as r;
+ghost use Rattle.command.specs.Payload as y;
 ghost use Rattle.command.specs.Payload.{carries_run};
-ghost use Rattle.message.specs.Prefix.{fields_at};
-ghost use Rattle.frame_reader.specs.Payload.{accepted, numbered_by, early, read_short, read_dump, read_run, version_in, read_payload};
+ghost use Rattle.message.specs.Prefix.{field_fits, fields_at};
+ghost use Rattle.frame_reader.specs.Payload.{accepted, numbered_by, early, read_short, read_dump, read_run, read_payload};
 
 use command::{Command, PATTERN_RAW_LEN};
 use ids::ProtocolVersion;
@@ -86,7 +87,7 @@ impl CommandPayload<'_> {
 
     // Behind its version: refusal 7 for the rest of the prefix, 7 or 13 for the run's length, then those of the other fields.
     fn read_run(self, version: ProtocolVersion) -> Result<Fields, Refusal>
-        requires { version_in self.bytes.now ≡ true }
+        requires { field_fits y.version (get_or self.bytes.now 0 0) ≡ true }
         ensures { answered result ≡ read_run self.entry.command version.0 self.entry.bytes.now }
     {
         let prefix = self.command.row().prefix_len;

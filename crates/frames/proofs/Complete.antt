@@ -12,21 +12,22 @@ use Rattle.laws.proofs.Tests.{both}
 use Rattle.refusal.specs.Outcome.{Outcome, gives, unless}
 use Rattle.command.specs.declared.Command.{Command}
 use Rattle.command.specs.Command.{code_of}
+use Rattle.command.specs.Payload as y
 use Rattle.command.specs.Payload.{payload_of, raw_length_for, carries_run}
 use Rattle.command.proofs.Table.{of_every}
 use Rattle.packed.specs.Packed.{packed_length}
 use Rattle.framing.specs.Framing.{same_bytes}
 use Rattle.message.specs.declared.fields.Fields.{Fields}
-use Rattle.message.specs.Prefix.{optional, field_list, fields_at, all_fit}
+use Rattle.message.specs.Prefix.{optional, field_list, fields_at, field_fits, all_fit}
 use Rattle.frame_reader.specs.declared.Record.{Record}
-use Rattle.frame_reader.specs.Payload.{accepted, numbered_by, prefix_length, early, is_any, when_run, version_in, read_fields, read_short, read_run, read_dump, read_payload}
+use Rattle.frame_reader.specs.Payload.{accepted, numbered_by, prefix_length, early, is_any, when_run, read_fields, read_short, read_run, read_dump, read_payload}
 use Rattle.frame_reader.specs.Reader.{payload, maker, read_record}
 use Rattle.message.proofs.prefix.ByKind.{version_comes_first}
 use Rattle.frame_reader.proofs.Accepted.{TestedPayload, Tested, run_fits, fit_given, no_option}
 
 -- a dump's first byte is its version
-version_fits : (c : Command) (b : Bool) (p : List ℕ) → carries_run c ≡ true → all_fit (field_list c b) p 0 ≡ true → version_in p ≡ true
-version_fits c b p h f = (both (version_in p) (all_fit (drop 1 (field_list c b)) p 1) (rw (version_comes_first c b h) at f)).0
+version_fits : (c : Command) (b : Bool) (p : List ℕ) → carries_run c ≡ true → all_fit (field_list c b) p 0 ≡ true → field_fits y.version (get_or p 0 0) ≡ true
+version_fits c b p h f = (both (field_fits y.version (get_or p 0 0)) (all_fit (drop 1 (field_list c b)) p 1) (rw (version_comes_first c b h) at f)).0
 
 -- what must be there before the version is looked at belongs to the prefix
 early_there : (c : Command) → carries_run c ≡ true → early c ≤ prefix_length c

@@ -5,7 +5,7 @@ use mathlib.Core.List.{List, [], ◌∷◌}
 use Prim.Native.Nat.{ℕ, ◌+◌, ◌-◌, ◌%◌, ◌≤◌, ◌<◌}
 use native.Mathlib.Omega.{arith}
 use lib.Dec.{eqb}
-use lib.ListN.{length}
+use lib.ListN.{length, get_or}
 use borrow.Author.Tests.{le-leb, lt-leb, eq-eqb, ne_eqb, eqb-true}
 use Rattle.laws.specs.Choice.{pick}
 use Rattle.laws.proofs.Tests.{split}
@@ -17,10 +17,10 @@ use Rattle.command.specs.Payload as y
 use Rattle.command.specs.Payload.{payload_of, raw_length_for, carries_run}
 use Rattle.command.proofs.Table.{same_code, same_at_every}
 use Rattle.packed.specs.Packed.{packed_length}
-use Rattle.message.specs.Prefix.{optional, fields_at, field_ok}
+use Rattle.message.specs.Prefix.{optional, fields_at, field_fits, field_ok}
 use Rattle.message.specs.quick.Prefix.{small_checked}
 use Rattle.message.proofs.prefix.ByKind.{checked_by_kind, version_first}
-use Rattle.frame_reader.specs.Payload.{accepted, numbered_by, prefix_length, when_length, read_fields, is_any, version_in, read_run}
+use Rattle.frame_reader.specs.Payload.{accepted, numbered_by, prefix_length, when_length, read_fields, is_any, read_run}
 
 -- a pattern's number
 pub numbered_short : (n : ℕ) → n < 2 → false ≡ numbered_by n
@@ -30,7 +30,7 @@ numbered_short n h =
     rw (one, none)
 
 -- fields behind a version that was tested, and those of payloads without a version
-pub fields_tested : (c : Command) (b : Bool) (p : List ℕ) → version_in p ≡ true → read_fields c b p ≡ small_checked (fields_at c b p)
+pub fields_tested : (c : Command) (b : Bool) (p : List ℕ) → field_fits y.version (get_or p 0 0) ≡ true → read_fields c b p ≡ small_checked (fields_at c b p)
 fields_tested c b p h = checked_by_kind c b p ∙ go (carries_run c) refl
   where
     go : (t : Bool) → carries_run c ≡ t
