@@ -3,8 +3,8 @@ use Rattle.std.specs.Prelude.{Bool, ◌&&◌, ◌||◌, not, List, ℕ, leb, eqb
 use Rattle.refusal.specs.Outcome.{Outcome, and_then}
 use Rattle.command.specs.Command.{command_of}
 use Rattle.message.specs.declared.fields.Fields.{Fields}
-use Rattle.message.specs.Head.{head_from}
-use Rattle.frame_writer.specs.Writer.{head_length, record_write}
+use Rattle.message.specs.Prefix.{field_list}
+use Rattle.frame_writer.specs.Writer.{length_for, record_write}
 use Rattle.host_answer.specs.declared.Answer.{Answer}
 use Rattle.host_answer.specs.Answer.{SendsIf}
 use Rattle.host_answer.specs.Device.{device_from}
@@ -19,9 +19,10 @@ abbrev pub fields_from : ℕ → ℕ → ℕ → ℕ → ℕ → ℕ → ℕ →
 fields_from free version bank program last pattern has interface rx tx =
     record { free = free; version = version; bank = bank; program = program; last = last; pattern = pattern; has_pattern = eqb has 1; interface = interface; rx = rx; tx = tx }
 
--- the length of a command's message beside a run: no field but a pattern's flag plays a part. 6, then 22
+-- how long a command's frame is beside a run, as the row is: eight bytes, one for each field of the command, and the run where it has one. No
+-- field's value plays a part, and the flag says whether a pattern's number is there. 6, then 22
 abbrev pub length_asked : ℕ → ℕ → ℕ → Outcome ℕ
-length_asked code has run = and_then (command_of code) (λ k. head_length (head_from k (fields_from 0 0 0 0 0 0 has 0 0 0)) run)
+length_asked code has run = and_then (command_of code) (λ k. length_for k (length (field_list k (eqb has 1))) run)
 
 -- the whole of what dm_frame_write does with its numbers, the run and the lent buffer: no record names its flags, or it is the writer of plain
 -- fields; its answer, and every byte of the buffer afterwards

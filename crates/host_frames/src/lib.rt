@@ -125,6 +125,7 @@ fn frame_len(command: u8, fields: Fields, run_len: usize) -> Result<usize, Refus
 
 // How many bytes a message of this command takes beside a run of so many; has_pattern says whether a pattern dump names its pattern, and is looked
 // at for command 08 alone. It looks at no other field. NO_RECORD, ahead of every refusal, for command 08 with has_pattern above 1; then refuses 6, 22.
+#[tactic(auto, using(crate::proofs::Named::measured_is_asked))]
 pub fn dm_frame_len(command: u8, has_pattern: u8, run_len: usize) -> Answer
     ensures { result ≡ pick (pattern_flag_fits command has_pattern) (answer_of (length_asked command has_pattern run_len)) no_record }
 {
