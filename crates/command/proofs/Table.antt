@@ -109,7 +109,7 @@ no_other_code b nobody = go commands
     go [] = refl
     go (j ∷ js) = rw (ne_eqb b (code_of j) (λ e. nobody j (sym e))) (go js)
 
--- and 6 is a number of the table
+-- a byte that is no code is refused with a number of the refusal table
 pub command_numbered : (b : ℕ) → numbered (command_of b) ≡ true
 command_numbered b = go commands
   where

@@ -1,4 +1,6 @@
-// Reads the payload of a frame: which run lengths are accepted, and the fields ahead of the run.
+// Reads the payload of a frame: which run lengths are accepted, and the fields ahead of the run. Two things are awkward. No byte says whether a
+// pattern dump names its pattern: the payload's length alone tells. And in 0B and 0D both bytes ahead of the run must be there before the version is
+// tested; in every other dump only the version itself.
 ghost use Rattle.refusal.specs.Outcome.{answered};
 ghost use Rattle.std.specs.Prelude.{◌≡◌, true, false, get_or, length};
 ghost use Rattle.command.specs.Command.{code_of};

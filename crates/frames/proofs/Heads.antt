@@ -88,7 +88,7 @@ frame_written_again bytes x room e real fits =
     (ap (λ (o : Outcome (List ℕ)). when_device r.device o) fields
     ∙ rw (code_reads_back r.command) at (fields_written_again bytes r room g.1 real fits))
 
--- and reads back as itself, its run included
+-- what is written of a message that the reader gave, into a room of its length or more, reads back as that message, its run included
 pub frame_reads_back : (bytes later : List ℕ) (x : FrameHead) (room : ℕ) → parsed bytes ≡ gives x → length bytes < 2 ^ 64 → length bytes ≤ room
     → frame_write x (run_of bytes) room ≡ gives later → (parsed later ≡ gives x) × (run_of later ≡ run_of bytes)
 frame_reads_back bytes later x room e real fits w =
@@ -96,7 +96,8 @@ frame_reads_back bytes later x room e real fits w =
     let same : later ≡ bytes = cc in
     (ap parsed same ∙ e, ap run_of same)
 
--- the same without a word on the room: what was written says that it was enough
+-- what is written of a message that the reader gave reads back as that message, its run included, whatever the room: that it was written
+-- says that the room was enough
 pub frame_reads_back_in_any_room : (bytes later : List ℕ) (x : FrameHead) (room : ℕ) → parsed bytes ≡ gives x → length bytes < 2 ^ 64
     → frame_write x (run_of bytes) room ≡ gives later → (parsed later ≡ gives x) × (run_of later ≡ run_of bytes)
 frame_reads_back_in_any_room bytes later x room e real w =

@@ -87,7 +87,9 @@ told_and_sent_again bytes r e real a told before afterwards answer room sent =
     let done : Sends (gives bytes) answer before afterwards = subst (λ (o : Outcome (List ℕ)). Sends o answer before afterwards) same named in
     (done.answers, done.leaves)
 
--- the same for a C host, which sees only the number: where it is 0 the frame was read
+-- A C host sees only the number. Where dm_frame_read told a with number 0, and dm_frame_write is handed a's numbers, the run from its place in
+-- the caller's bytes and a buffer as long as the frame or longer, the frame's bytes stand in the buffer again, and just these were written:
+-- the number 0 says that the frame was read
 pub told_with_0_and_sent_again : (bytes : List ℕ) → length bytes < 2 ^ 64
     → (a : ReadAnswer) → a ≡ read_answer (read_record bytes) bytes → a.number ≡ 0
     → (before afterwards : List ℕ) (answer : Answer) → length bytes ≤ length before

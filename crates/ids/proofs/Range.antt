@@ -1,5 +1,5 @@
--- A value that `new` made is in range and holds the byte that it was made from, because the call tests that
--- byte first and then only wraps it.
+-- A value that `from_byte` made is in range and holds the byte that it was made from, because the call tests that byte first and then only
+-- wraps it.
 use mathlib.Core.Path.{◌≡◌, refl, ap, ◌∙◌, sym}
 use mathlib.Core.Bool.{Bool, true}
 use mathlib.Core.List.{[], ◌∷◌}

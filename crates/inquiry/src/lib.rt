@@ -1,5 +1,6 @@
 // The identity inquiry that every MIDI maker shares: a request is six bytes and names only a device; a reply says that a DeepMind
-// answers, and with which firmware.
+// answers, and with which firmware. Rule 2 does not hold here: voice bytes of 80 and above pass. And a reply that is read and written again may
+// be other bytes: the writer masks the firmware and puts 00 in the free byte.
 #![tactic(auto)]
 
 ghost use Rattle.std.specs.Prelude.{◌≡◌, ◌+◌, ◌≤◌, get_or, length};

@@ -1,3 +1,4 @@
+-- What the two loops of `first_held` keep: nothing is found yet, since no key that was looked at is held.
 use Rattle.std.proofs.Common.{◌≡◌, ◌<◌, ◌+◌, ◌*◌, None}
 use Rattle.held_keys.proofs.First.{NoneBelow}
 use Rattle.held_keys.proofs.first_held.Given as goal

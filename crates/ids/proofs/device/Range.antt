@@ -33,7 +33,7 @@ pub device_reads_back : (x : DeviceId) → device_in_range x ≡ true → device
 device_reads_back (d.Unit n) h = rw h
 device_reads_back d.Broadcast h = refl
 
--- and any other byte is refused with a number of the table
+-- a byte that is no device's is refused with a number of the table
 pub device_numbered : (n : ℕ) → numbered (device_of n) ≡ true
 device_numbered n = go (ltb n 16)
   where

@@ -1,5 +1,5 @@
--- A version that `new` made is in range and holds the byte that it was made from, because the call tests that byte first and then only
--- wraps it.
+-- A version that `from_byte` made is in range and holds the byte that it was made from, because the call tests that byte first and then
+-- only wraps it.
 use mathlib.Core.Path.{◌≡◌, refl}
 use mathlib.Core.Bool.{true, ◌||◌}
 use Prim.Native.Nat.{ℕ}

@@ -1,3 +1,4 @@
+-- What the loop of `keys_of` keeps: the record's channels are read from the front, one a turn.
 use Rattle.std.proofs.Common.{◌≡◌, length}
 use Rattle.laws.specs.Tabulate.{tab}
 use Rattle.laws.specs.Window.{window}

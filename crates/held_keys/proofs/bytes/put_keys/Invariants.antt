@@ -1,3 +1,4 @@
+-- What the loop of `put_keys` keeps: the bytes are written from the front, one word a turn.
 use Rattle.std.proofs.Common.{◌≡◌, ◌*◌, length}
 use Rattle.laws.specs.Tabulate.{tab}
 use Rattle.laws.specs.Window.{window}
