@@ -262,7 +262,7 @@ impl OfByte for Command {
 
     ghost byte_of = { code_of };
 
-    // Refuses 6 with the byte.
+    // Refuses 6 with the byte. A match beside the table, since a row of COMMANDS tells no command, and a search would compare up to 22 codes.
     fn from_byte(byte: u8) -> Result<Command, Refusal> {
         match byte {
             0x00 => Ok(Command::ControlAppNotifyRequest),
