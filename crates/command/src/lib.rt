@@ -250,7 +250,7 @@ impl Command {
     }
 
     // The command's row of the table, at its own number, which a cast alone tells.
-    pub fn row(self) -> Row
+    pub fn table_row(self) -> Row
         ensures { result ≡ row_of self }
     {
         COMMANDS[self as usize]
@@ -292,7 +292,7 @@ impl OfByte for Command {
     }
 
     fn to_byte(self) -> u8 {
-        self.row().code
+        self.table_row().code
     }
 
     ghost same_byte = { λ b x. read_code commands b x };
@@ -305,6 +305,6 @@ pub fn raw_len(command: Command, version: ProtocolVersion) -> usize
     match command {
         Command::ProgramDumpResponse | Command::EditBufferDumpResponse =>
             version.program_data_len(),
-        _ => command.row().raw_len,
+        _ => command.table_row().raw_len,
     }
 }

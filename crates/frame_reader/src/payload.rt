@@ -80,7 +80,7 @@ impl CommandPayload<'_> {
         requires { carries_run self.command ≡ false }
         ensures { answered result ≡ read_short self.entry.command self.entry.bytes.now }
     {
-        let expected = self.command.row().prefix_len;
+        let expected = self.command.table_row().prefix_len;
         if self.bytes.len() != expected {
             return Err(self.wrong_length(expected));
         }
@@ -92,7 +92,7 @@ impl CommandPayload<'_> {
         requires { field_fits y.version (get_or self.bytes.now 0 0) ≡ true }
         ensures { answered result ≡ read_run self.entry.command version.0 self.entry.bytes.now }
     {
-        let prefix = self.command.row().prefix_len;
+        let prefix = self.command.table_row().prefix_len;
         let found = self.bytes.len();
         if found < prefix {
             return Err(self.wrong_length(prefix));
@@ -118,7 +118,7 @@ impl CommandPayload<'_> {
         ensures { answered result ≡ read_dump self.entry.command self.entry.bytes.now }
     {
         if self.bytes.len() < early_len(self.command) {
-            return Err(self.wrong_length(self.command.row().prefix_len));
+            return Err(self.wrong_length(self.command.table_row().prefix_len));
         }
         let version = ProtocolVersion::from_byte(self.bytes[0])?;
         self.read_run(version)

@@ -116,7 +116,7 @@ fn pattern_flag_fits(command: u8, has_pattern: u8) -> bool
 }
 
 // The length of a message of this command. Refuses 6, 22.
-fn frame_len(command: u8, fields: Fields, run_len: usize) -> Result<usize, Refusal>
+fn measured(command: u8, fields: Fields, run_len: usize) -> Result<usize, Refusal>
     ensures { answered result ≡ and_then (command_of command) (λ k. head_length (head_from k fields) run_len) }
 {
     let known = Command::from_byte(command)?;
@@ -136,7 +136,7 @@ pub fn dm_frame_len(command: u8, has_pattern: u8, run_len: usize) -> Answer
         has_pattern: has_pattern == 1,
         ..Fields::BLANK
     };
-    Answer::from(frame_len(command, fields, run_len))
+    Answer::from(measured(command, fields, run_len))
 }
 
 // Writes a frame. NO_RECORD, ahead of every refusal, for everyone above 1 and for command 08 with has_pattern above 1, which no other command

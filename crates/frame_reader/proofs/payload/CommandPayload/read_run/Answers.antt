@@ -26,14 +26,14 @@ use Rattle.frame_reader.proofs.payload.CommandPayload.read_run.Goals.{else-eq-2-
 
 pub returns-then-found-prefix : goal.returns-then-found-prefix
 returns-then-found-prefix c = let a = c.args in
-    let e : c.row-prefix.result.prefix_len ≡ prefix_length a.self.command = ap (λ (r : Row). r.prefix_len) c.row-prefix.ensures in
+    let e : c.table_row-prefix.result.prefix_len ≡ prefix_length a.self.command = ap (λ (r : Row). r.prefix_len) c.table_row-prefix.ensures in
     rw (c.wrong_length.ensures, e) (run_too_short a.self.command a.version.0 a.self.bytes.now (rw e at c.if-found-prefix.true))
 
 pub returns-in_err-unpacked_len : goal.returns-in_err-unpacked_len
 returns-in_err-unpacked_len c =
     let a = c.args in
     let p = a.self.bytes.now in
-    let r = c.row-prefix in
+    let r = c.table_row-prefix in
     let e : r.result.prefix_len ≡ prefix_length a.self.command = ap (λ (x : Row). x.prefix_len) r.ensures in
     let n : ℕ = length p - prefix_length a.self.command in
     let least : prefix_length a.self.command ≤ length p = omega (arith, e, c.if-found-prefix.false) in
@@ -48,7 +48,7 @@ pub returns-then-eq : goal.returns-then-eq
 returns-then-eq c =
     let a = c.args in
     let p = a.self.bytes.now in
-    let r = c.row-prefix in
+    let r = c.table_row-prefix in
     let e : r.result.prefix_len ≡ prefix_length a.self.command = ap (λ (x : Row). x.prefix_len) r.ensures in
     let n : ℕ = length p - prefix_length a.self.command in
     let least : prefix_length a.self.command ≤ length p = omega (arith, e, c.if-found-prefix.false) in
@@ -60,7 +60,7 @@ returns-then-eq c =
 pub returns-then-holds : goal.returns-then-holds
 returns-then-holds c = let a = c.args in
     let p = a.self.bytes.now in
-    let r = c.row-prefix in
+    let r = c.table_row-prefix in
     let e : r.result.prefix_len ≡ prefix_length a.self.command = ap (λ (x : Row). x.prefix_len) r.ensures in
     let least : prefix_length a.self.command ≤ length p = omega (arith, e, c.if-found-prefix.false) in
     let is : accepted (raw_length_for a.self.command a.version.0) (length p - prefix_length a.self.command) ≡ true =
@@ -72,7 +72,7 @@ pub returns-then-is_numbered : goal.returns-then-is_numbered
 returns-then-is_numbered c =
     let a = c.args in
     let p = a.self.bytes.now in
-    let r = c.row-prefix in
+    let r = c.table_row-prefix in
     let e : r.result.prefix_len ≡ prefix_length a.self.command = ap (λ (x : Row). x.prefix_len) r.ensures in
     let least : prefix_length a.self.command ≤ length p = omega (arith, e, c.if-found-prefix.false) in
     let is : accepted (raw_length_for a.self.command a.version.0) (length p - prefix_length a.self.command) ≡ false =
@@ -87,7 +87,7 @@ returns c =
     let raw_len = c.raw_len-raw_len in
     let a = c.args in
     let p = a.self.bytes.now in
-    let r = c.row-prefix in
+    let r = c.table_row-prefix in
     let e : r.result.prefix_len ≡ prefix_length a.self.command = ap (λ (x : Row). x.prefix_len) r.ensures in
     let least : prefix_length a.self.command ≤ length p = omega (arith, e, c.if-found-prefix.false) in
     let is : accepted (raw_length_for a.self.command a.version.0) (length p - prefix_length a.self.command) ≡ false =
