@@ -314,10 +314,10 @@ typedef struct dm_held_answer {
 dm_answer dm_held_fresh(uint8_t *keys, size_t keys_len);
 
 /*
- * Applies a channel message to a record. nibble: 90 note on, which holds its key, whatever its velocity; 80 note off, which releases it; A0 key
- * pressure, B0 control change, C0 program change, D0 channel pressure and E0 bend, which change nothing. a: a note's key, of which the low seven
- * bits count; b: its velocity, which does not matter. value: 0. Refuses DM_BAD_STORE for any other length than DM_HELD_LEN; DM_NO_RECORD for another
- * nibble; then refuses DM_CHANNEL_OUT_OF_RANGE.
+ * Applies a channel message to a record. nibble: 90 note on, which holds its key with a velocity of 1 to 127 and releases it with velocity 0; 80 note
+ * off, which releases it; A0 key pressure, B0 control change, C0 program change, D0 channel pressure and E0 bend, which change nothing. a: a note's
+ * key, b: its velocity, of which the low seven bits count. value: 0. Refuses DM_BAD_STORE for any other length than DM_HELD_LEN; DM_NO_RECORD for
+ * another nibble; then refuses DM_CHANNEL_OUT_OF_RANGE.
  */
 dm_answer dm_held_apply(uint8_t *keys, size_t keys_len, uint8_t nibble, uint8_t channel, uint16_t a, uint8_t b);
 

@@ -13,14 +13,14 @@ fn next(seed: &mut u64) -> u16 {
 fn expected(messages: &[[u16; 4]]) -> String {
     let mut held = [[false; 128]; 16];
     let mut said = String::new();
-    for [nibble, channel, a, _] in messages {
+    for [nibble, channel, a, b] in messages {
         let Some(keys) = held.get_mut(usize::from(*channel)) else {
             said += &format!("no17,{channel}");
             continue;
         };
         said.push('.');
         match nibble {
-            0x90 => keys[usize::from(a % 128)] = true,
+            0x90 => keys[usize::from(a % 128)] = b % 128 != 0,
             0x80 => keys[usize::from(a % 128)] = false,
             _ => {}
         }
@@ -42,7 +42,8 @@ fn as_the_model_says() {
             .map(|_| {
                 let nibble = 0x80 + 16 * [0, 0, 1, 1, 1, 2, 3, 4, 5, 6][usize::from(next(&mut seed) % 10)];
                 let a = if nibble == 0xE0 { next(&mut seed) } else { next(&mut seed) % 256 };
-                [nibble, next(&mut seed) % channels, a, next(&mut seed) % 256]
+                let b = [0, 128, 1, 127, 129, 255].get(usize::from(next(&mut seed) % 12)).map_or_else(|| next(&mut seed) % 256, |b| *b);
+                [nibble, next(&mut seed) % channels, a, b]
             })
             .collect();
         let answer = Engine::new().answer(&Request::Held(messages.clone()), &mut []);
@@ -50,22 +51,31 @@ fn as_the_model_says() {
     }
 }
 
-/// Every key of every channel is the bit that the header names, and no other.
+/// Every key of every channel is the bit that the header names, and no other: held by a strike, released by a note off and by a soft strike.
 #[test]
 fn every_key_has_its_bit() {
     for channel in 0..16_u8 {
         for key in 0..=255_u8 {
-            let mut keys = [0; HELD_LEN];
-            assert_eq!(ffi::held_apply(&mut keys, 0x90, channel, key.into(), 0).number, 0);
             let mut bits = [0; HELD_LEN];
             bits[usize::from(channel) * 16 + usize::from(key % 128) / 8] = 1 << (key % 8);
-            assert_eq!(keys, bits, "{channel},{key}");
-            let first = ffi::held_first(&keys);
-            assert_eq!((first.number, first.found, first.channel, first.key), (0, 1, channel.into(), u64::from(key % 128)));
-            let mut full = [0xFF; HELD_LEN];
-            assert_eq!(ffi::held_apply(&mut full, 0x80, channel, key.into(), 0).number, 0);
-            assert!(full.iter().zip(bits).all(|(left, bit)| *left == !bit), "{channel},{key}");
-            assert_eq!(ffi::held_count(&full, channel).value, 127);
+            for velocity in [1, 64, 127, 129, 255] {
+                let mut keys = [0; HELD_LEN];
+                assert_eq!(ffi::held_apply(&mut keys, 0x90, channel, key.into(), velocity).number, 0);
+                assert_eq!(keys, bits, "{channel},{key},{velocity}");
+                let first = ffi::held_first(&keys);
+                assert_eq!((first.number, first.found, first.channel, first.key), (0, 1, channel.into(), u64::from(key % 128)));
+                assert_eq!(ffi::held_apply(&mut keys, 0x90, channel, key.into(), velocity).number, 0);
+                assert_eq!(keys, bits, "struck again: {channel},{key},{velocity}");
+            }
+            for (nibble, velocity) in [(0x80, 0), (0x80, 64), (0x90, 0), (0x90, 128)] {
+                let mut full = [0xFF; HELD_LEN];
+                assert_eq!(ffi::held_apply(&mut full, nibble, channel, key.into(), velocity).number, 0);
+                assert!(full.iter().zip(bits).all(|(left, bit)| *left == !bit), "{nibble},{channel},{key},{velocity}");
+                assert_eq!(ffi::held_count(&full, channel).value, 127);
+                let mut none = [0; HELD_LEN];
+                assert_eq!(ffi::held_apply(&mut none, nibble, channel, key.into(), velocity).number, 0);
+                assert_eq!(none, [0; HELD_LEN], "not held: {nibble},{channel},{key},{velocity}");
+            }
         }
     }
 }
@@ -87,8 +97,10 @@ fn refusals_change_nothing() {
     }
     for channel in 16..=255_u8 {
         for nibble in (0x80..=0xE0_u8).step_by(16) {
-            let answer = ffi::held_apply(&mut keys, nibble, channel, 1, 1);
-            assert_eq!((answer.number, answer.details[0]), (17, channel.into()));
+            for (key, velocity) in [(0, 0), (0, 1), (1, 0), (1, 1)] {
+                let answer = ffi::held_apply(&mut keys, nibble, channel, key, velocity);
+                assert_eq!((answer.number, answer.details[0]), (17, channel.into()));
+            }
         }
         assert_eq!(ffi::held_count(&keys, channel).number, 17);
     }

@@ -86,7 +86,7 @@ key_of e.Nothing = 0
 
 -- a key that is held or released is below 128
 pub key_small : (m : ChannelMessage) → key_of (effect_of m) < 128
-key_small (m.NoteOn a b) = omega arith
+key_small (m.NoteOn a b) = by_test (λ (x : Effect). key_of x < 128) (eqb (b % 128) 0) _ _ (λ t. omega arith) (λ f. omega arith)
 key_small (m.NoteOff a b) = omega arith
 key_small (m.PolyKeyPressure a b) = omega arith
 key_small (m.ControlChange a b) = omega arith

@@ -6,3 +6,4 @@ pub mod Known
 pub mod Made
 pub mod Reached
 pub mod Shape
+pub mod SoftRelease

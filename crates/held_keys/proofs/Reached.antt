@@ -18,7 +18,7 @@ use Rattle.held_keys.proofs.Keys.{none_held}
 use Rattle.held_keys.proofs.Known.{record_known}
 use Rattle.held_keys.proofs.Made.{held_afterwards, after_shaped}
 
--- a note on for each held key among the first n places, counted channel by channel and key by key, latest first; 64 is one velocity of many
+-- a note on for each held key among the first n places, counted channel by channel and key by key, latest first; 64 is one of the velocities that hold
 abbrev pub presses : (ℕ → ℕ → Bool) → ℕ → List KeyCall
 presses held zero = []
 presses held (suc j) = pick (held (j / 128) (j % 128)) ((j / 128, m.NoteOn (j % 128) 64) ∷ presses held j) (presses held j)
@@ -44,8 +44,8 @@ below_next x j other =
 
 module _ (held : ℕ → ℕ → Bool) (j : ℕ) (c k : ℕ) (channel : c < 16) (key : k < 128) where
   -- a note on at place j holds that place
-  pressed_here : (before : List (List ℕ)) (v : ℕ) → c * 128 + k ≡ j → still_held before (j / 128) (m.NoteOn (j % 128) v) c k ≡ true
-  pressed_here before v e = rw (eq-eqb c (j / 128) (omega arith), eq-eqb k (j % 128 % 128) (omega arith))
+  pressed_here : (before : List (List ℕ)) → c * 128 + k ≡ j → still_held before (j / 128) (m.NoteOn (j % 128) 64) c k ≡ true
+  pressed_here before e = rw (eq-eqb c (j / 128) (omega arith), eq-eqb k (j % 128 % 128) (omega arith))
 
   -- a note on at place j leaves every other place as it was
   pressed_elsewhere : (before : List (List ℕ)) (v : ℕ) → (c * 128 + k ≡ j → ⊥) → still_held before (j / 128) (m.NoteOn (j % 128) v) c k ≡ is_held before c k
@@ -53,7 +53,8 @@ module _ (held : ℕ → ℕ → Bool) (j : ℕ) (c k : ℕ) (channel : c < 16) 
       split (eqb c (j / 128))
       (λ (t : eqb c (j / 128) ≡ true).
       let same : c ≡ j / 128 = eqb-true c (j / 128) t in
-      rw (t, ne_eqb k (j % 128 % 128) (λ e. other (omega arith))))
+      let key_other : eqb k (j % 128 % 128) ≡ false = ne_eqb k (j % 128 % 128) (λ e. other (omega arith)) in
+      split (eqb (v % 128) 0) (λ (s : eqb (v % 128) 0 ≡ true). rw (t, s, key_other)) (λ (s : eqb (v % 128) 0 ≡ false). rw (t, s, key_other)))
       (λ (f : eqb c (j / 128) ≡ false). rw f)
 
   -- the place itself is held or not as the record says
@@ -71,7 +72,7 @@ module _ (held : ℕ → ℕ → Bool) (j : ℕ) (c k : ℕ) (channel : c < 16) 
       ∙ split (eqb (c * 128 + k) j)
       (λ (t : eqb (c * 128 + k) j ≡ true).
       let same : c * 128 + k ≡ j = eqb-true (c * 128 + k) j t in
-      pressed_here (after_calls earlier) 64 same ∙ sym (ap₂ (λ (x y : Bool). x && y) (lt-ltb (c * 128 + k) (suc j) (omega arith)) (here same ∙ e)))
+      pressed_here (after_calls earlier) same ∙ sym (ap₂ (λ (x y : Bool). x && y) (lt-ltb (c * 128 + k) (suc j) (omega arith)) (here same ∙ e)))
       (λ (f : eqb (c * 128 + k) j ≡ false).
       let other : c * 128 + k ≡ j → ⊥ = eqb-false (c * 128 + k) j f in
       pressed_elsewhere (after_calls earlier) 64 other ∙ before ∙ ap (λ (x : Bool). x && held c k) (below_next (c * 128 + k) j other))

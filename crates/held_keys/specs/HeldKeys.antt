@@ -1,4 +1,4 @@
--- The held keys of document 01: "For 16 channels of 128 keys: a note on holds its key, a note off releases it".
+-- The held keys of document 01: "For 16 channels of 128 keys: a note on holds its key, a note off releases it"; with order 1 of document 02.
 use Rattle.std.specs.Prelude.{Bool, true, false, List, [], ◌∷◌, ℕ, zero, suc, ◌+◌, ◌/◌, ◌%◌, ◌^◌, eqb, get_or, Err, None, Ok, Option, Result, Some, ⊤}
 use Rattle.laws.specs.Choice.{pick}
 use Rattle.laws.specs.Tabulate.{tab}
@@ -18,9 +18,14 @@ bit w k = eqb (w / 2 ^ k % 2) 1
 unfoldable pub is_held : List (List ℕ) → ℕ → ℕ → Bool
 is_held keys c k = bit (get_or (get_or keys c []) (k / 64) 0) (k % 64)
 
--- "a note on holds its key, a note off releases it; keys and velocities are masked to seven bits, and other messages change nothing"
+-- "velocity 0", "masked to seven bits"
+abbrev pub soft : ℕ → Bool
+soft v = eqb (v % 128) 0
+
+-- "a note on holds its key, a note off releases it; keys and velocities are masked to seven bits, and other messages change nothing". By order 1 of
+-- document 02 "a note on with velocity 0" releases its key too, and "a note on holds its key" is for velocities 1 to 127
 abbrev pub effect_of : ChannelMessage → Effect
-effect_of (m.NoteOn k v) = e.Hold (k % 128)
+effect_of (m.NoteOn k v) = pick (soft v) (e.Release (k % 128)) (e.Hold (k % 128))
 effect_of (m.NoteOff k v) = e.Release (k % 128)
 effect_of (m.PolyKeyPressure k p) = e.Nothing
 effect_of (m.ControlChange n v) = e.Nothing

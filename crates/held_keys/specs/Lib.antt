@@ -1,3 +1,4 @@
 pub mod HeldBytes
 pub mod HeldKeys
+pub mod Played
 pub mod Record

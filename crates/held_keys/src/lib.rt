@@ -30,13 +30,15 @@ pub fn new() -> HeldKeys
     [[0; 2]; 16]
 }
 
-// A note on holds its key, a note off releases it; seven bits of the key count, and the velocity does not.
+// A note on with velocity 1 to 127 holds its key; a note off, and a note on with velocity 0, release it. Seven bits of key and velocity count.
 pub fn effect_of(message: ChannelMessage) -> Effect
     ensures { result ≡ effect_of message }
 {
     match message {
-        ChannelMessage::NoteOn { key, .. } => Effect::Hold(key % 128),
-        ChannelMessage::NoteOff { key, .. } => Effect::Release(key % 128),
+        ChannelMessage::NoteOn { key, velocity } if velocity % 128 != 0 => Effect::Hold(key % 128),
+        ChannelMessage::NoteOn { key, .. } | ChannelMessage::NoteOff { key, .. } => {
+            Effect::Release(key % 128)
+        }
         _ => Effect::Nothing,
     }
 }

@@ -1,9 +1,9 @@
 -- The held keys as they cross to C: 256 bytes that the caller keeps. "A channel of 16 or more gets 17, the record unchanged"; 20 for another length.
-use Rattle.std.specs.Prelude.{◌≡◌, Bool, List, [], ℕ, eqb, ltb, length, replicate, None, Option, Some}
+use Rattle.std.specs.Prelude.{◌≡◌, Bool, List, [], ◌∷◌, ℕ, eqb, ltb, length, replicate, None, Option, Some}
 use Rattle.laws.specs.Choice.{pick}
 use Rattle.refusal.specs.Outcome.{Outcome, gives, refused, unless}
 use Rattle.held_keys.specs.HeldKeys.{key_answer, count_on, first_held}
-use Rattle.held_keys.specs.Record.{record_after}
+use Rattle.held_keys.specs.Record.{KeyCall, record_after}
 use Rattle.held_keys.specs.HeldBytes.{keys_of, bytes_of_keys}
 use Rattle.host_answer.specs.declared.Answer.{Answer}
 use Rattle.host_answer.specs.Answer.{answer_of, no_record}
@@ -40,6 +40,12 @@ apply_bytes bytes kind channel = pick (is_record bytes) (kind_bytes bytes kind c
 pub record HeldSent (kind : Option ChannelMessage) (channel : ℕ) (answer : Answer) (before later : List ℕ) : Type 0 where
   pub answers : answer ≡ apply_answer before kind channel
   pub leaves : later ≡ apply_bytes before kind channel
+
+-- the bytes after calls of dm_held_apply, each with a message that a record names, from those that dm_held_fresh writes; the latest call first. A
+-- call that is answered 255 leaves the bytes, so that it need not stand in the list
+unfoldable pub bytes_after_calls : List KeyCall → List ℕ
+bytes_after_calls [] = replicate 256 0
+bytes_after_calls (call ∷ earlier) = apply_bytes (bytes_after_calls earlier) (Some call.1) call.0
 
 -- "count held on a channel"
 abbrev pub count_in : List ℕ → ℕ → Outcome ℕ

@@ -1,5 +1,6 @@
 // Channel, system common and real-time messages.
 use decoder::Report;
+use held_keys::Effect;
 use refusal::Refusal;
 use std::fmt;
 use wire::{Channel, ChannelMessage, CommonStatus, Realtime, SystemCommon};
@@ -46,9 +47,14 @@ impl fmt::Display for OnChannel {
                 )
             }
             ChannelMessage::NoteOn { key, velocity } => {
+                // One with velocity 0 releases its key.
+                let release = match held_keys::effect_of(self.message) {
+                    Effect::Release(_) => ", releases the key",
+                    Effect::Hold(_) | Effect::Nothing => "",
+                };
                 write!(
                     f,
-                    "note on, channel {channel}, key {key}, velocity {velocity}"
+                    "note on, channel {channel}, key {key}, velocity {velocity}{release}"
                 )
             }
             ChannelMessage::PolyKeyPressure { key, pressure } => {
