@@ -180,8 +180,8 @@ dm_answer dm_fresh(uint8_t *state, size_t state_len);
 dm_answer dm_reset(uint8_t *state, size_t state_len);
 
 /*
- * value: 1 while a frame is open, else 0. Refuses DM_BAD_STORE for bytes that are no state: any other length than DM_STATE_LEN, a flag above 1, and
- * a status without its flag.
+ * value: 1 while a frame is open, else 0. Refuses DM_BAD_STORE for another length than DM_STATE_LEN, and for bytes that are no state. dm_fresh
+ * and dm_reset write a state, and dm_feed leaves one where it was given one.
  */
 dm_answer dm_in_sysex(const uint8_t *state, size_t state_len);
 
@@ -316,7 +316,7 @@ dm_answer dm_held_fresh(uint8_t *keys, size_t keys_len);
 /*
  * Applies a channel message to a record. nibble: 90 note on, which holds its key with a velocity of 1 to 127 and releases it with velocity 0; 80 note
  * off, which releases it; A0 key pressure, B0 control change, C0 program change, D0 channel pressure and E0 bend, which change nothing. a: a note's
- * key, b: its velocity, of which the low seven bits count. value: 0. Refuses DM_BAD_STORE for any other length than DM_HELD_LEN; DM_NO_RECORD for
+ * key, b: its velocity, of each of which the low seven bits count. value: 0. Refuses DM_BAD_STORE for any other length than DM_HELD_LEN; DM_NO_RECORD for
  * another nibble; then refuses DM_CHANNEL_OUT_OF_RANGE.
  */
 dm_answer dm_held_apply(uint8_t *keys, size_t keys_len, uint8_t nibble, uint8_t channel, uint16_t a, uint8_t b);

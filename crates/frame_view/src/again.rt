@@ -6,7 +6,7 @@ ghost use Rattle.frame_view.specs.Again.{written_again};
 use crate::frame::Frame;
 use refusal::Refusal;
 
-// Reads a frame and writes it again. Refuses 1, 2, 3, 4, 5, 6, 7, 8, 13, 12, 9, 11 as the reader does, then as the writer does.
+// Reads a frame and writes it again. Refuses as the reader does, then as the writer does.
 pub fn write_again(bytes: &[u8], out: &mut [u8]) -> Result<usize, Refusal>
     ensures { Writes (written_again bytes.now (length out.old)) result out.old out.new }
 {

@@ -51,7 +51,7 @@ soft_struck : (same before : Bool) → pick same false before ≡ pick (same && 
 soft_struck true before = refl
 soft_struck false before = refl
 
--- a strike of the same key or of another, by the same two tests
+-- a strike of the same key or of another, by the two tests of note_on_effect
 hard_struck : (same before : Bool) → pick same true before ≡ pick (same && true) true (pick (same && false) false before)
 hard_struck true before = refl
 hard_struck false before = refl
@@ -100,7 +100,7 @@ released_is_not_held (call ∷ earlier) c key hc hk x =
     (record { later_released = λ later before one same pressed. rw r at (x.later_released (call ∷ later) before one (ap (λ (l : List KeyCall). call ∷ l) same) pressed) }))))
 
 -- a stage keyboard leaves no hanging note: where each pressed key is released, by a note off or by a soft strike, in any mixture and on any channels,
--- the record ends as it began, with no key held. The messages need not be in range, and a call refused with 17 presses nothing
+-- the record ends as it began, with no key held. The messages need not be in range, and a call refused with 17 changes nothing
 pub no_hanging_note : (calls : List KeyCall) → AllReleased calls → after_calls calls ≡ no_keys
 unfolding after_calls
 no_hanging_note calls all =
@@ -137,7 +137,7 @@ held_until_released (one ∷ later) earlier call c key hc hk pressed none =
     (λ (p : pressed_by one c key ≡ true). rw p)
     (λ (p : pressed_by one c key ≡ false). rw (p, kept.0) before)
 
--- no other list ends so: where no key is held at the end, each pressed key was released
+-- where no key is held at the end, each pressed key was released
 pub only_if_released : (calls : List KeyCall) → after_calls calls ≡ no_keys → AllReleased calls
 only_if_released calls ends =
     record {

@@ -40,7 +40,7 @@ bytes_after (call ∷ earlier) =
 pub no_hanging_note_of_host : (calls : List KeyCall) → AllReleased calls → bytes_after_calls calls ≡ replicate 256 0
 no_hanging_note_of_host calls all = bytes_after calls ∙ ap bytes_of_keys (no_hanging_note calls all) ∙ bytes_fresh no_keys (none_held 16)
 
--- no other list ends so: where the bytes are those that dm_held_fresh wrote, each pressed key was released
+-- where the bytes are those that dm_held_fresh wrote, each pressed key was released
 pub only_if_released_of_host : (calls : List KeyCall) → bytes_after_calls calls ≡ replicate 256 0 → AllReleased calls
 unfolding after_calls
 only_if_released_of_host calls ends =
