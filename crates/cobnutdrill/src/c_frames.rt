@@ -9,7 +9,8 @@ ghost use Rattle.std.specs.Prelude.{◌≡◌};
 use host_answer::Answer;
 use host_frames::ReadAnswer;
 
-// Reads a frame, F0 to F7. Refuses 1, 2, 3, 4, 5, 6, then by its payload 7, 8, 13, 12, 9, 11; behind 2 no program byte is out of range.
+// Reads a frame, F0 to F7. Refuses 1, 2, 3, 4, 5, 6, then by its payload: 7, 8, 7 or 13 for the run, 12, 9, 11.
+// Behind 2 no program byte is out of range.
 #[unsafe(no_mangle)]
 pub extern "C" fn dm_frame_read(bytes: &[u8]) -> ReadAnswer
     ensures { result ≡ read_answer (read_record bytes.now) bytes.now }

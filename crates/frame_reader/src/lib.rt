@@ -65,7 +65,7 @@ fn read_header(bytes: &[u8]) -> Result<Record, Refusal>
     })
 }
 
-// The frame as plain fields. Refuses 1, 2, 3, 4, 5, 6, then by its payload 7, 8, 13, 12, 9, 11.
+// The frame as plain fields. Refuses 1, 2, 3, 4, 5, 6, then by its payload: 7, 8, 7 or 13 for the run, 12, 9, 11.
 #[tactic(auto, using(crate::proofs::Parts::body_part), unfolding(crate::specs::Reader::read_record))]
 pub fn read_record(bytes: &[u8]) -> Result<Record, Refusal>
     ensures { answered result ≡ read_record bytes.now }
@@ -109,7 +109,7 @@ fn locate_run(frame: Record, len: usize) -> Place
     }
 }
 
-// The frame as plain fields, and where its run lies. Refuses 1, 2, 3, 4, 5, 6, then by its payload 7, 8, 13, 12, 9, 11.
+// The frame as plain fields, and where its run lies. Refuses 1, 2, 3, 4, 5, 6, then by its payload: 7, 8, 7 or 13 for the run, 12, 9, 11.
 #[tactic(auto, using(crate::proofs::RunPlace::prefix_fits))]
 pub fn read_located(bytes: &[u8]) -> Result<Located, Refusal>
     ensures { answered result ≡ read_located bytes.now }

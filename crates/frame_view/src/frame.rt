@@ -29,8 +29,8 @@ impl<'a> Frame<'a> {
         }
     }
 
-    // Reads a frame, its run inside the bytes; empty where the frame has none. Refuses 1 to 6, then as the
-    // reader tests a payload: 7, 8, 13, 12, 9 or 11.
+    // Reads a frame, its run inside the bytes; empty where the frame has none. Refuses 1, 2, 3, 4, 5, 6, then by its
+    // payload: 7, 8, 7 or 13 for the run, 12, 9, 11.
     pub fn parse(bytes: &'a [u8]) -> Result<Frame<'a>, Refusal>
         ensures says { said_by result ≡ parsed bytes.now }
         ensures run { IfOk result (λ frame. RunLent bytes.entry frame.run) }

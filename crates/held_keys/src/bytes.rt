@@ -24,7 +24,7 @@ pub fn keys_of(bytes: &[u8; HELD_LEN]) -> HeldKeys
 }
 
 // Writes a record's bytes.
-#[tactic(auto, using(crate::proofs::bytes::Filled::word_more))]
+#[tactic(auto, using(crate::proofs::bytes::Filled::word_filled))]
 pub fn put_keys(keys: HeldKeys, bytes: &mut [u8; HELD_LEN])
     ensures { bytes.new ≡ bytes_of_keys keys }
 {

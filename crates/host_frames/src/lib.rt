@@ -98,7 +98,8 @@ impl From<Refusal> for ReadAnswer {
     }
 }
 
-// Reads a frame, F0 to F7. Refuses 1, 2, 3, 4, 5, 6, then by its payload 7, 8, 13, 12, 9, 11; behind 2 no program byte is out of range.
+// Reads a frame, F0 to F7. Refuses 1, 2, 3, 4, 5, 6, then by its payload: 7, 8, 7 or 13 for the run, 12, 9, 11.
+// Behind 2 no program byte is out of range.
 pub fn dm_frame_read(bytes: &[u8]) -> ReadAnswer
     ensures { result ≡ read_answer (read_record bytes.now) bytes.now }
 {

@@ -49,7 +49,7 @@ only_if_released_of_host calls ends =
     only_if_released calls
     (sym said ∙ ap keys_of (sym (bytes_after calls) ∙ ends ∙ sym (bytes_fresh no_keys (none_held 16))) ∙ fresh)
 
--- at any point of any list the bytes do not tell by which of the two a key was released
+-- at any point of any list the bytes do not tell whether a key was released by a note off or by a soft strike
 pub either_release_of_host : (later earlier : List KeyCall) (channel k v off : ℕ) → v % 128 ≡ 0
     → bytes_after_calls (later ++ ((channel, m.NoteOn k v) ∷ earlier)) ≡ bytes_after_calls (later ++ ((channel, m.NoteOff k off) ∷ earlier))
 either_release_of_host later earlier channel k v off h =

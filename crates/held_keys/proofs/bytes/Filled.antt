@@ -40,10 +40,10 @@ unfolding record_of
 channels_all bytes l keys c last e p = p ∙ ap (λ (n : ℕ). window l 0 (tab (channel_in bytes) n)) last ∙ filled_all (channel_in bytes) l 16 e
 
 -- the bytes of one word more
-pub word_more : (keys : List (List ℕ)) (l bytes later : List ℕ) (i : ℕ) → i < 32 → length l ≡ 256 → length bytes ≡ 256
+pub word_filled : (keys : List (List ℕ)) (l bytes later : List ℕ) (i : ℕ) → i < 32 → length l ≡ 256 → length bytes ≡ 256
     → bytes ≡ window l 0 (tab (byte_of keys) (8 * i)) → later ≡ put_word (get_or (get_or keys (i / 2) []) (i % 2) 0) bytes (8 * i)
     → later ≡ window l 0 (tab (byte_of keys) (8 * (i + 1)))
-word_more keys l bytes later i h e long p q =
+word_filled keys l bytes later i h e long p q =
     let next : 8 * i + 8 ≡ 8 * (i + 1) = omega arith in
     let word : ℕ = get_or (get_or keys (i / 2) []) (i % 2) 0 in
     q ∙ word_window word bytes (8 * i) (omega arith)
