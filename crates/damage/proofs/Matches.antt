@@ -74,7 +74,7 @@ nothing_pending v =
     (λ e. by_test P (ltb 0 (data_length v)) 0 0 (λ l. refl) (λ l. refl))
 
 -- the last data byte is the one that came last
-last_is : (xs : List ℕ) (b : ℕ) → last_of (xs ++ (b ∷ [])) ≡ b
+pub last_is : (xs : List ℕ) (b : ℕ) → last_of (xs ++ (b ∷ [])) ≡ b
 last_is xs b = rw (length-append xs (b ∷ [])) (ap (λ (n : ℕ). get_or (xs ++ (b ∷ [])) n 0) one_back ∙ get_or-append_seam xs b [] 0)
   where
     one_back : length xs + 1 - 1 ≡ length xs

@@ -54,7 +54,7 @@ all_own : (ts : List Tag) → Sent ts ts
 all_own [] = nothing
 all_own (t ∷ ts) = own (all_own ts)
 
-bytes_of_tags : (first : Bool) (e : Event) (bs : List ℕ) → bytes (tags first e bs) ≡ bs
+pub bytes_of_tags : (first : Bool) (e : Event) (bs : List ℕ) → bytes (tags first e bs) ≡ bs
 bytes_of_tags first e [] = refl
 bytes_of_tags first e (b ∷ []) = refl
 bytes_of_tags first e (b ∷ x ∷ bs) = ap (λ (l : List ℕ). b ∷ l) (bytes_of_tags false e (x ∷ bs))

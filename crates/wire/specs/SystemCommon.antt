@@ -43,9 +43,13 @@ common_in_range (m.SongPosition p) = leb p 16383
 common_in_range (m.SongSelect v) = leb v 127
 common_in_range m.TuneRequest = true
 
--- the writer: 21 with the value, then 14
+-- 21, with the value
+abbrev pub when_common : {A : Type 0} → CommonStatus → ℕ → Outcome A → Outcome A
+when_common s v next = unless (common_in_range (common s v)) 21 (v ∷ []) next
+
+-- the writer: 21, then 14
 abbrev pub common_write : CommonStatus → ℕ → ℕ → Outcome (List ℕ)
-common_write s v room = unless (common_in_range (common s v)) 21 (v ∷ []) (with_room room (common_bytes (common s v)))
+common_write s v room = when_common s v (with_room room (common_bytes (common s v)))
 
 -- what a status byte and its data mean; the data's top bits are ignored, and bytes that the message lacks
 abbrev pub common_message : ℕ → ℕ → ℕ → Option SystemCommon
