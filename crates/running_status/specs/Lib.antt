@@ -1,0 +1,5 @@
+pub mod RunningStatus
+pub mod Chain
+pub mod Sending
+pub mod Stream
+pub mod ReadBack

@@ -1,0 +1,120 @@
+// Running status on the way out: one message after another, with the state between them going in and out. The status byte of a channel message is left
+// out where it is the running status.
+#![tactic(auto)]
+
+ghost use Rattle.std.specs.Prelude.{◌≡◌, length, Some};
+ghost use Rattle.wire.specs.ChannelMessage.{status_nibble};
+ghost use Rattle.wire.specs.Channel.{when_channel};
+ghost use Rattle.refusal.specs.Outcome.{answered, gives, with_room, Writes};
+ghost use Rattle.running_status.specs.RunningStatus.{is_running, shortened, state_behind, item_of, message_out, when_frame, frame_out, Emits};
+ghost use Rattle.damage.specs.Sent.{Voice};
+
+use decoder::MAX_SYSEX_LEN;
+use refusal::Refusal;
+use wire::{Channel, ChannelMessage, CommonStatus, Realtime};
+
+// A message that is no frame: a system common one by its status and its value.
+#[derive(Clone, Copy, Debug, PartialEq, Eq)]
+pub enum Outgoing {
+    Channel {
+        channel: Channel,
+        message: ChannelMessage,
+    },
+    Common {
+        status: CommonStatus,
+        value: u16,
+    },
+    Realtime(Realtime),
+}
+
+// What a call wrote: how many bytes, and the running status behind them, which the next call gets. A refused call gives none, and the next gets the state
+// that it got.
+#[derive(Clone, Copy, Debug, PartialEq, Eq)]
+pub struct Emitted {
+    pub count: usize,
+    pub state: Option<u8>,
+}
+
+// The state of the writer: no running status, or the status byte 80 to EF that is it. From none a listener that knows nothing yet can follow.
+pub fn is_running(state: Option<u8>) -> bool
+    ensures { result ≡ is_running state }
+{
+    match state {
+        None => true,
+        Some(0x80..0xF0) => true,
+        Some(_) => false,
+    }
+}
+
+// Writes a message that is no frame. Refuses 20 for the state, then 17 or 21, then 14.
+pub fn write(state: Option<u8>, message: Outgoing, out: &mut [u8]) -> Result<Emitted, Refusal>
+    ensures { Emits (message_out state message (length out.old)) (state_behind state (item_of message)) result out.old out.new }
+{
+    if !is_running(state) {
+        return Err(Refusal::BadStore);
+    }
+    match message {
+        Outgoing::Channel { channel, message } => {
+            let count = put_channel(state, channel, message, out)?;
+            Ok(Emitted {
+                count,
+                state: Some(message.status_nibble() + channel.0),
+            })
+        }
+        Outgoing::Common { status, value } => {
+            let count = status.encode_into(value, out)?;
+            Ok(Emitted { count, state: None })
+        }
+        Outgoing::Realtime(message) => {
+            let count = message.encode_into(out)?;
+            Ok(Emitted { count, state })
+        }
+    }
+}
+
+// Writes a frame, which is given as its bytes from F0 to F7. Refuses 20 for the state, then 1, 2, then 19 beyond the frame limit, then 14.
+pub fn write_frame(state: Option<u8>, frame: &[u8], out: &mut [u8]) -> Result<Emitted, Refusal>
+    ensures { Emits (frame_out state frame.now (length out.old)) None result out.old out.new }
+{
+    if !is_running(state) {
+        return Err(Refusal::BadStore);
+    }
+    check_frame(frame)?;
+    let count = refusal::put(frame, out)?;
+    Ok(Emitted { count, state: None })
+}
+
+// Writes a channel message, without its status byte where that is the running status. Refuses 17, then 14.
+fn put_channel(
+    state: Option<u8>,
+    channel: Channel,
+    message: ChannelMessage,
+    out: &mut [u8],
+) -> Result<usize, Refusal>
+    ensures { Writes (when_channel channel.0 (with_room (length out.old) (shortened state (Voice channel message)))) result out.old out.new }
+{
+    let mut bytes = [0; 3];
+    let len = message.encode_into(channel, &mut bytes)?;
+    let left_out = match state {
+        Some(status) if status == bytes[0] => 1,
+        _ => 0,
+    };
+    refusal::put(&bytes[left_out..len], out)
+}
+
+// Refuses what is no frame: 1, 2, then 19 beyond the frame limit.
+#[tactic(auto, using(decoder::proofs::Limit::limit_is))]
+fn check_frame(frame: &[u8]) -> Result<(), Refusal>
+    ensures { answered result ≡ when_frame frame.now (gives tt) }
+{
+    if !framing::is_framed(frame) {
+        return Err(Refusal::Unframed);
+    }
+    if let Some(byte) = framing::first_high(&frame[1..frame.len() - 1]) {
+        return Err(Refusal::NotSevenBit(byte));
+    }
+    if MAX_SYSEX_LEN < frame.len() {
+        return Err(Refusal::SysExTooLong(MAX_SYSEX_LEN));
+    }
+    Ok(())
+}
