@@ -41,7 +41,7 @@ extern "C" {
 #define DM_NOT_AN_INQUIRY_RESPONSE 16     /* none */
 #define DM_CHANNEL_OUT_OF_RANGE 17        /* the byte */
 #define DM_SYSEX_INTERRUPTED 18           /* a report of dm_feed, none */
-#define DM_SYSEX_TOO_LONG 19              /* a report of dm_feed, the frame limit */
+#define DM_SYSEX_TOO_LONG 19              /* a report of dm_feed, and a refusal of dm_running_frame: the frame limit */
 #define DM_BAD_STORE 20                   /* none */
 #define DM_VALUE_TOO_LARGE 21             /* the value */
 #define DM_LENGTH_OVERFLOW 22             /* none */
@@ -53,6 +53,9 @@ extern "C" {
 /* The bytes of a decoder's state, and the frame limit: the least length of its store, and the longest frame that is reported. */
 #define DM_STATE_LEN 14
 #define DM_MAX_SYSEX_LEN 2354
+
+/* The bytes of a running-status state: 00 00 where there is none, else 01 and the status byte 80 to EF. */
+#define DM_RUNNING_LEN 2
 
 /* The bytes of a held-key record, of an identity request and of an identity reply. */
 #define DM_HELD_LEN 256
@@ -144,6 +147,48 @@ dm_answer dm_common_write(uint8_t status, uint16_t value, uint8_t *out, size_t o
 
 /* Writes a real-time message, one byte. value: 1. DM_NO_RECORD for any other byte, F9 and FD too. Refuses DM_BUFFER_TOO_SMALL. */
 dm_answer dm_realtime_write(uint8_t byte, uint8_t *out, size_t out_len);
+
+/* ---- Messages with running status ------------------------------------------------------------------------------------------------------ */
+
+/*
+ * These write one message after another for one cable, and leave out the status byte of a channel message where it is the running status there. A
+ * frame or a system common message clears the running status, a real-time message does not. state is DM_RUNNING_LEN bytes that the caller keeps for
+ * that cable and lends at every call as the last one left them. A call that accepts writes state and out, and its value is the count written; send
+ * those bytes, and nothing else, on that cable. One that refuses, or answers DM_NO_RECORD, leaves both as they were.
+ *
+ * A listener who has missed bytes reads nothing before the next status byte. So begin again with dm_running_fresh where a plug may have been put
+ * in, or where something else was sent on the cable.
+ *
+ * Every call refuses DM_BAD_STORE first, for another length than DM_RUNNING_LEN and for bytes that are no state. DM_BUFFER_TOO_SMALL comes last, and
+ * tells the bytes that would be written: a status byte that is left out is not counted.
+ */
+
+/* Writes the state with no running status, whatever the bytes held. value: DM_RUNNING_LEN. Refuses DM_BAD_STORE for any other length than that. */
+dm_answer dm_running_fresh(uint8_t *state, size_t state_len);
+
+/*
+ * Writes a channel message. nibble, a and b are those of dm_channel_write. Behind DM_BAD_STORE comes DM_NO_RECORD for another nibble; then it
+ * refuses DM_CHANNEL_OUT_OF_RANGE, DM_BUFFER_TOO_SMALL.
+ */
+dm_answer dm_running_channel(uint8_t *state, size_t state_len, uint8_t nibble, uint8_t channel, uint16_t a, uint8_t b, uint8_t *out, size_t out_len);
+
+/*
+ * Writes a system common message. status and value are those of dm_common_write. Behind DM_BAD_STORE comes DM_NO_RECORD for another status; then it
+ * refuses DM_VALUE_TOO_LARGE, DM_BUFFER_TOO_SMALL.
+ */
+dm_answer dm_running_common(uint8_t *state, size_t state_len, uint8_t status, uint16_t value, uint8_t *out, size_t out_len);
+
+/*
+ * Writes a real-time message, one byte. Behind DM_BAD_STORE comes DM_NO_RECORD for a byte that is none, F9 and FD too; then it refuses
+ * DM_BUFFER_TOO_SMALL.
+ */
+dm_answer dm_running_realtime(uint8_t *state, size_t state_len, uint8_t byte, uint8_t *out, size_t out_len);
+
+/*
+ * Writes a frame, given as its bytes from F0 to F7, of which it asks no more than that. Behind DM_BAD_STORE it refuses DM_UNFRAMED, DM_NOT_SEVEN_BIT
+ * for a byte of 80 or above between the ends, real-time bytes too, DM_SYSEX_TOO_LONG for more than DM_MAX_SYSEX_LEN bytes, DM_BUFFER_TOO_SMALL.
+ */
+dm_answer dm_running_frame(uint8_t *state, size_t state_len, const uint8_t *frame, size_t frame_len, uint8_t *out, size_t out_len);
 
 /* ---- The stream decoder ----------------------------------------------------------------------------------------------------------- */
 

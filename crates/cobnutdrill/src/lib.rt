@@ -8,5 +8,6 @@ mod c_held_keys;
 mod c_ids;
 mod c_inquiry;
 mod c_packed;
+mod c_running_status;
 mod c_stream;
 mod c_wire;

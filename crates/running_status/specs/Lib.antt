@@ -1,4 +1,5 @@
 pub mod RunningStatus
+pub mod StateBytes
 pub mod Chain
 pub mod Sending
 pub mod Stream

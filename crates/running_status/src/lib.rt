@@ -9,6 +9,8 @@ ghost use Rattle.refusal.specs.Outcome.{answered, gives, with_room, Writes};
 ghost use Rattle.running_status.specs.RunningStatus.{is_running, shortened, state_behind, item_of, message_out, when_frame, frame_out, Emits};
 ghost use Rattle.damage.specs.Sent.{Voice};
 
+pub mod bytes;
+
 use decoder::MAX_SYSEX_LEN;
 use refusal::Refusal;
 use wire::{Channel, ChannelMessage, CommonStatus, Realtime};

@@ -1,0 +1,64 @@
+-- The writer that leaves out status bytes as a C host calls it: its state as two bytes, and what it answers in plain numbers.
+use Rattle.std.specs.Prelude.{◌≡◌, List, [], ℕ, eqb, length, None, Option, Some}
+use Rattle.refusal.specs.Outcome.{Outcome, gives, refused, unless}
+use Rattle.wire.specs.declared.channel_message.ChannelMessage.{ChannelMessage}
+use Rattle.wire.specs.declared.system_common.CommonStatus.{CommonStatus}
+use Rattle.wire.specs.declared.real_time.Realtime.{Realtime}
+use Rattle.running_status.specs.declared.Outgoing.{Outgoing}
+use Rattle.running_status.specs.declared.Outgoing.TheVariants as o
+use Rattle.running_status.specs.RunningStatus.{item_of, state_behind, message_out, frame_out}
+use Rattle.running_status.specs.StateBytes.{running_bytes, says_running, running_of}
+use Rattle.host_answer.specs.declared.Answer.{Answer}
+use Rattle.host_answer.specs.Answer.{Sends}
+
+-- the message that plain numbers name: a kind of channel message on a channel, a kind of system common message with its value, a real-time message;
+-- none where no record names the kind
+abbrev pub channel_named : Option ChannelMessage → ℕ → Option Outgoing
+channel_named (Some m) channel = Some (o.Channel (record { 0 = channel }) m)
+channel_named None channel = None
+
+abbrev pub common_named : Option CommonStatus → ℕ → Option Outgoing
+common_named (Some k) value = Some (o.Common k value)
+common_named None value = None
+
+abbrev pub realtime_named : Option Realtime → Option Outgoing
+realtime_named (Some x) = Some (o.Realtime x)
+realtime_named None = None
+
+-- 20 for bytes that are no state, "tested first, nothing used"
+abbrev pub when_running : List ℕ → Outcome (List ℕ) → Outcome (List ℕ)
+when_running state next = unless (says_running state) 20 [] next
+
+-- 255 where no record names the message, and then what the writer does
+abbrev pub named_out : Option ℕ → Option Outgoing → ℕ → Outcome (List ℕ)
+named_out st (Some m) room = message_out st m room
+named_out st None room = refused 255 []
+
+-- the state behind a message
+abbrev pub named_behind : Option ℕ → Option Outgoing → Option ℕ
+named_behind st (Some m) = state_behind st (item_of m)
+named_behind st None = st
+
+-- the state's bytes afterwards: "the state is kept" where the call is refused
+abbrev pub running_after_call : Outcome (List ℕ) → Option ℕ → List ℕ → List ℕ
+running_after_call (gives bytes) next state = running_bytes next
+running_after_call (refused n values) next state = state
+
+-- the whole of what a call does: its answer, the state's bytes and the lent buffer's
+pub record RunningSent (result : Outcome (List ℕ)) (next : Option ℕ) (answer : Answer) (state state_later out out_later : List ℕ) : Type 0 where
+  pub sends : Sends result answer out out_later
+  pub keeps : state_later ≡ running_after_call result next state
+
+-- a call with a message that is no frame
+abbrev pub NamedSent : Option Outgoing → Answer → List ℕ → List ℕ → List ℕ → List ℕ → Type 0
+NamedSent named answer state state_later out out_later =
+    RunningSent (when_running state (named_out (running_of state) named (length out))) (named_behind (running_of state) named) answer state state_later out out_later
+
+-- a call with a frame's bytes
+abbrev pub FrameSentOn : List ℕ → Answer → List ℕ → List ℕ → List ℕ → List ℕ → Type 0
+FrameSentOn frame answer state state_later out out_later =
+    RunningSent (when_running state (frame_out (running_of state) frame (length out))) None answer state state_later out out_later
+
+-- a fresh state, "the state none": two bytes 00, whatever they held; 20 for another length
+abbrev pub running_fresh : List ℕ → Outcome (List ℕ)
+running_fresh state = unless (eqb (length state) 2) 20 [] (gives (running_bytes None))
