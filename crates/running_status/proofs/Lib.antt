@@ -1,1 +1,4 @@
 pub mod StateBytes
+pub mod Missing
+pub mod LastMissing
+pub mod Minimal
