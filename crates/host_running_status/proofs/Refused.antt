@@ -2,18 +2,18 @@
 use Rattle.std.specs.Prelude.{Err, None, Option, Some}
 use mathlib.Core.Path.{◌≡◌, refl, subst}
 use mathlib.Core.Bool.{Bool, true, false}
-use mathlib.Core.List.{List}
+use mathlib.Core.List.{List, []}
 use Prim.Native.Nat.{ℕ}
 use Rattle.refusal.specs.declared.Refusal.{Refusal}
 use Rattle.refusal.specs.Refusal.{number_of, values_of}
-use Rattle.refusal.specs.Outcome.{Outcome, gives, refused, refusal}
+use Rattle.refusal.specs.Outcome.{Outcome, gives, refused, refusal, unless}
 use Rattle.laws.specs.Choice.{pick}
 use Rattle.refusal.proofs.Given.{given_not_refused}
 use Rattle.running_status.specs.RunningStatus.{Emits}
 use Rattle.running_status.specs.StateBytes.{says_running, running_of}
 use Rattle.host_answer.specs.declared.Answer.{Answer}
 use Rattle.host_answer.specs.Answer.{answer_of}
-use Rattle.host_running_status.specs.Running.{when_running, RunningSent}
+use Rattle.host_running_status.specs.Running.{RunningSent}
 
 refused_sent : (o : Outcome (List ℕ)) (next : Option ℕ) (e : Refusal) (r : Answer) (state out later : List ℕ) → Emits o next (Err e) out later
     → r ≡ answer_of (refusal e) → RunningSent o next r state state out later
@@ -27,12 +27,12 @@ refused_sent (refused n vs) next e r state out later w is =
 pub refused_call : (state bytes : List ℕ) (running : Option ℕ) (o : Option ℕ → Outcome (List ℕ)) (next : Option ℕ → Option ℕ) (e : Refusal) (r : Answer)
     (out later : List ℕ) → bytes ≡ state → pick (says_running bytes) (Some (running_of bytes)) None ≡ Some running
     → Emits (o running) (next running) (Err e) out later → r ≡ answer_of (refusal e)
-    → RunningSent (when_running state (o (running_of state))) (next (running_of state)) r state bytes out later
+    → RunningSent (unless (says_running state) 20 [] (o (running_of state))) (next (running_of state)) r state bytes out later
 refused_call state bytes running o next e r out later same said w is =
-    subst (λ (b : List ℕ). RunningSent (when_running b (o (running_of b))) (next (running_of b)) r b bytes out later) same (go (says_running bytes) refl said)
+    subst (λ (b : List ℕ). RunningSent (unless (says_running b) 20 [] (o (running_of b))) (next (running_of b)) r b bytes out later) same (go (says_running bytes) refl said)
   where
     go : (t : Bool) → says_running bytes ≡ t → pick t (Some (running_of bytes)) None ≡ Some running
-        → RunningSent (when_running bytes (o (running_of bytes))) (next (running_of bytes)) r bytes bytes out later
+        → RunningSent (unless (says_running bytes) 20 [] (o (running_of bytes))) (next (running_of bytes)) r bytes bytes out later
     go true h k =
         let is_so : running_of bytes ≡ running = cc in
         rw (h, is_so) (refused_sent (o running) (next running) e r bytes out later w is)

@@ -25,19 +25,26 @@ abbrev pub realtime_named : Option Realtime → Option Outgoing
 realtime_named (Some x) = Some (o.Realtime x)
 realtime_named None = None
 
--- 20 for bytes that are no state, "tested first, nothing used"
-abbrev pub when_running : List ℕ → Outcome (List ℕ) → Outcome (List ℕ)
-when_running state next = unless (says_running state) 20 [] next
+-- what a call is handed: numbers, which may name a message that is no frame, or a frame's bytes
+pub data HostHanded : Type 0 where
+  of_numbers : Option Outgoing → HostHanded
+  of_frame : List ℕ → HostHanded
 
--- 255 where no record names the message, and then what the writer does
-abbrev pub named_out : Option ℕ → Option Outgoing → ℕ → Outcome (List ℕ)
-named_out st (Some m) room = message_out st m room
-named_out st None room = refused 255 []
+-- what the writer does; 255 where no record names the message
+abbrev pub host_out : Option ℕ → HostHanded → ℕ → Outcome (List ℕ)
+host_out st (of_numbers (Some m)) room = message_out st m room
+host_out st (of_numbers None) room = refused 255 []
+host_out st (of_frame frame) room = frame_out st frame room
 
--- the state behind a message
-abbrev pub named_behind : Option ℕ → Option Outgoing → Option ℕ
-named_behind st (Some m) = state_behind st (item_of m)
-named_behind st None = st
+-- the state behind it
+abbrev pub host_behind : Option ℕ → HostHanded → Option ℕ
+host_behind st (of_numbers (Some m)) = state_behind st (item_of m)
+host_behind st (of_numbers None) = st
+host_behind st (of_frame frame) = None
+
+-- 20 for bytes that are no state, "tested first, nothing used"; then what the writer does
+abbrev pub called_out : List ℕ → HostHanded → ℕ → Outcome (List ℕ)
+called_out state x room = unless (says_running state) 20 [] (host_out (running_of state) x room)
 
 -- the state's bytes afterwards: "the state is kept" where the call is refused
 abbrev pub running_after_call : Outcome (List ℕ) → Option ℕ → List ℕ → List ℕ
@@ -49,15 +56,10 @@ pub record RunningSent (result : Outcome (List ℕ)) (next : Option ℕ) (answer
   pub sends : Sends result answer out out_later
   pub keeps : state_later ≡ running_after_call result next state
 
--- a call with a message that is no frame
-abbrev pub NamedSent : Option Outgoing → Answer → List ℕ → List ℕ → List ℕ → List ℕ → Type 0
-NamedSent named answer state state_later out out_later =
-    RunningSent (when_running state (named_out (running_of state) named (length out))) (named_behind (running_of state) named) answer state state_later out out_later
-
--- a call with a frame's bytes
-abbrev pub FrameSentOn : List ℕ → Answer → List ℕ → List ℕ → List ℕ → List ℕ → Type 0
-FrameSentOn frame answer state state_later out out_later =
-    RunningSent (when_running state (frame_out (running_of state) frame (length out))) None answer state state_later out out_later
+-- a call on the state that the bytes say
+abbrev pub HandedSent : HostHanded → Answer → List ℕ → List ℕ → List ℕ → List ℕ → Type 0
+HandedSent x answer state state_later out out_later =
+    RunningSent (called_out state x (length out)) (host_behind (running_of state) x) answer state state_later out out_later
 
 -- a fresh state, "the state none": two bytes 00, whatever they held; 20 for another length
 abbrev pub running_fresh : List ℕ → Outcome (List ℕ)
