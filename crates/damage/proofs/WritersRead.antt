@@ -59,6 +59,15 @@ bytes_of_tags first e [] = refl
 bytes_of_tags first e (b ∷ []) = refl
 bytes_of_tags first e (b ∷ x ∷ bs) = ap (λ (l : List ℕ). b ∷ l) (bytes_of_tags false e (x ∷ bs))
 
+-- a real-time message's byte is F8 or above
+pub realtime_from_f8 : (m : Realtime) → 0xF8 ≤ realtime_byte m
+realtime_from_f8 t.Clock = omega arith
+realtime_from_f8 t.Start = omega arith
+realtime_from_f8 t.Continue = omega arith
+realtime_from_f8 t.Stop = omega arith
+realtime_from_f8 t.ActiveSensing = omega arith
+realtime_from_f8 t.SystemReset = omega arith
+
 -- a message alone: its last byte reports it, and no other byte anything
 pub read_alone : (m : Message) → sendable m ≡ true → (store : List ℕ) → limit ≤ length store → singly fresh store (bytes_of m) ≡ intacts (tagged m)
 read_alone m ok store room =
@@ -106,12 +115,4 @@ module _ (store : List ℕ) (room : limit ≤ length store) (out later : List �
       ∙ history_is_step [] fresh store (realtime_byte m ∷ []) (cleared_matches fresh store room) ∙ ap (λ (x : List Reported). x ∷ []) (itself m)
     where
       itself : (x : Realtime) → heard 0 [] (realtime_byte x) ≡ gives (realtime x) ∷ []
-      itself x = realtime_heard 0 [] (realtime_byte x) (above x) ∙ rw (realtime_reads_back x)
-        where
-          above : (z : Realtime) → 0xF8 ≤ realtime_byte z
-          above t.Clock = omega arith
-          above t.Start = omega arith
-          above t.Continue = omega arith
-          above t.Stop = omega arith
-          above t.ActiveSensing = omega arith
-          above t.SystemReset = omega arith
+      itself x = realtime_heard 0 [] (realtime_byte x) (realtime_from_f8 x) ∙ rw (realtime_reads_back x)

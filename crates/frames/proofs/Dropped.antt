@@ -13,6 +13,7 @@ use borrow.Author.Tests.{ltb-true, eqb-true, eqb-false}
 use Rattle.laws.proofs.Tests.{both, split}
 use Rattle.refusal.specs.Outcome.{Outcome, gives, refused}
 use Rattle.framing.specs.Framing.{body}
+use Rattle.framing.proofs.Bytes.{framed_is}
 use Rattle.frame_reader.specs.declared.Record.{Record}
 use Rattle.frame_reader.specs.Payload.{read_run}
 use Rattle.frame_reader.specs.Reader.{read_record}
@@ -29,7 +30,7 @@ use Rattle.damage.proofs.Ahead.{meaning_append}
 use Rattle.damage.proofs.FrameLimit.{one_fewer, as_many}
 use Rattle.damage.proofs.HistoryIsStep.{cleared_matches, history_is_step}
 use Rattle.frames.specs.Dropped.{dropped}
-use Rattle.frames.proofs.Reported.{framed_is, low_is_seven_bit}
+use Rattle.frames.proofs.Reported.{low_is_seven_bit}
 
 seven_bit_parts : (xs ys : List ℕ) → seven_bit (xs ++ ys) ≡ true → (seven_bit xs ≡ true) × (seven_bit ys ≡ true)
 seven_bit_parts [] ys h = (refl, h)

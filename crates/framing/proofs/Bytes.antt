@@ -1,14 +1,14 @@
--- The first high byte stands right behind the run of data bytes, and lists that compare as the same are the same.
+-- The first high byte stands right behind the run of data bytes, lists that compare as the same are the same, and framed bytes are F0, a body and F7.
 use Rattle.std.specs.Prelude.{None, Option, Some}
-use mathlib.Core.Path.{◌≡◌, refl, ap₂, sym, ◌∙◌}
-use mathlib.Core.Bool.{Bool, true, false}
+use mathlib.Core.Path.{◌≡◌, refl, ap, ap₂, sym, ◌∙◌}
+use mathlib.Core.Bool.{Bool, true, false, ◌&&◌}
 use mathlib.Core.List.{List, [], ◌∷◌, ◌++◌}
-use Prim.Native.Nat.{ℕ, ◌≤◌, ◌<◌}
+use Prim.Native.Nat.{ℕ, suc, ◌-◌, ◌≤◌, ◌<◌}
 use native.Mathlib.Omega.{arith}
-use lib.Dec.{ltb, eqb}
-use lib.ListN.{length, get_or}
-use lib.Seq.{ext_get_or}
-use borrow.Author.Tests.{lt-ltb, le-ltb, eqb-true}
+use lib.Dec.{ltb, leb, eqb}
+use lib.ListN.{length, get_or, take}
+use lib.Seq.{ext_get_or, take-suc, take_all}
+use borrow.Author.Tests.{lt-ltb, le-ltb, leb-true, eqb-true}
 use Rattle.laws.specs.Choice.{pick}
 use Rattle.laws.specs.Tabulate.{tab}
 use Rattle.laws.proofs.Tabulate.{length_tab, get_or_tab}
@@ -17,7 +17,7 @@ use Rattle.octets.specs.quick.Data.{data_run}
 use Rattle.octets.proofs.data_bytes.Runs.{run_none, by_byte}
 use Rattle.refusal.specs.Outcome.{Outcome, gives}
 use Rattle.refusal.proofs.Given.{given_not_refused}
-use Rattle.framing.specs.Framing.{first_high, unless_high, same_bytes}
+use Rattle.framing.specs.Framing.{framed, body, first_high, unless_high, same_bytes}
 
 -- the first high byte stands right behind the run of data bytes
 pub high_behind : (l : List ℕ) → data_run l < length l → first_high l ≡ Some (get_or l (data_run l) 0)
@@ -74,3 +74,25 @@ high_none_behind (b ∷ l) k h = go (ltb b 0x80) h (high_none_behind l k)
     go : (t : Bool) → pick t (first_high (l ++ k)) (Some b) ≡ None → (first_high (l ++ k) ≡ None → first_high k ≡ None) → first_high k ≡ None
     go true g rest = rest g
     go false g rest = let z : ◌≡◌ {A = ℕ} 0 1 = cc in absurd (omega arith)
+
+-- a list that ends with its last element
+ends_with : (l : List ℕ) (n : ℕ) → length l ≡ suc n → l ≡ take n l ++ (get_or l n 0 ∷ [])
+ends_with l n e =
+    let all : length l ≤ suc n = omega arith in
+    let last : n < length l = omega arith in
+    sym (take_all (suc n) l all) ∙ take-suc l n 0 last
+
+-- framed bytes are F0, a body and F7
+pub framed_is : (bytes : List ℕ) → framed bytes ≡ true → bytes ≡ 0xF0 ∷ body bytes ++ (0xF7 ∷ [])
+framed_is [] h = let z : ◌≡◌ {A = ℕ} 0 1 = cc in absurd (omega arith)
+framed_is (x ∷ rest) h =
+    let outer = both (leb 2 (length (x ∷ rest)) && eqb x 0xF0) (eqb (get_or (x ∷ rest) (length (x ∷ rest) - 1) 0) 0xF7) h in
+    let inner = both (leb 2 (length (x ∷ rest))) (eqb x 0xF0) outer.0 in
+    let long : 2 ≤ length (x ∷ rest) = leb-true 2 (length (x ∷ rest)) inner.0 in
+    let first : x ≡ 0xF0 = eqb-true x 0xF0 inner.1 in
+    let n = length (x ∷ rest) - 2 in
+    let place : length (x ∷ rest) - 1 ≡ suc n = omega arith in
+    let last : get_or rest n 0 ≡ 0xF7 =
+    ap (λ (k : ℕ). get_or (x ∷ rest) k 0) (sym place) ∙ eqb-true (get_or (x ∷ rest) (length (x ∷ rest) - 1) 0) 0xF7 outer.1 in
+    ap₂ (λ (a : ℕ) (l : List ℕ). a ∷ l) first
+    (ends_with rest n (omega arith) ∙ ap (λ (b : ℕ). take n rest ++ (b ∷ [])) last)

@@ -1,4 +1,10 @@
 pub mod StateBytes
+pub mod Waiting
+pub mod Sends
+pub mod Reached
+pub mod StreamRead
+pub mod ReadBack
 pub mod Missing
 pub mod LastMissing
 pub mod Minimal
+pub mod Rows

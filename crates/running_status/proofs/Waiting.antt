@@ -1,0 +1,30 @@
+-- The status byte of an in-range channel message is 80 to EF and takes the message's data bytes, because the channel is below 16; behind such
+-- messages no data byte waits for the rest of one.
+use mathlib.Core.Path.{◌≡◌}
+use mathlib.Core.Bool.{true}
+use Prim.Native.Nat.{ℕ, ◌+◌, ◌%◌, ◌≤◌, ◌<◌}
+use native.Mathlib.Omega.{arith}
+use lib.Dec.{leb}
+use lib.ListN.{length}
+use borrow.Author.Tests.{ltb-true}
+use Rattle.laws.specs.Choice.{pick}
+use Rattle.laws.proofs.Tests.{both}
+use Rattle.wire.specs.Status.{data_length}
+use Rattle.wire.specs.declared.Channel.{Channel}
+use Rattle.wire.specs.declared.channel_message.ChannelMessage.{ChannelMessage}
+use Rattle.wire.specs.ChannelMessage.{status_nibble, data_bytes}
+use Rattle.wire.proofs.channel_message.Bytes.{nibble_range}
+use Rattle.wire.proofs.ReadBack.{data_length_of_channel}
+use Rattle.damage.specs.Sent.{Voice, sendable}
+
+-- how many data bytes wait of a message of n data bytes, when k have come under running status
+abbrev pub left_over : ℕ → ℕ → ℕ
+left_over n k = pick (leb n 1) 0 (k % 2)
+
+-- an in-range channel message's status byte is 80 to EF, and takes its data bytes
+pub voice_status : (c : Channel) (m : ChannelMessage) → sendable (Voice c m) ≡ true
+    → (0x80 ≤ status_nibble m + c.0) × (status_nibble m + c.0 < 0xF0) × (data_length (status_nibble m + c.0) ≡ length (data_bytes m))
+voice_status c m ok =
+    let low : c.0 < 16 = ltb-true _ _ (both _ _ (both _ _ ok).0).0 in
+    let range = nibble_range m in
+    (omega arith, omega arith, data_length_of_channel c.0 m low)
