@@ -1,3 +1,4 @@
 pub mod Named
 pub mod NumbersTold
 pub mod Condition3OfHost
+pub mod RunningReadBack

@@ -22,8 +22,6 @@ use Rattle.wire.specs.ChannelMessage.{status_nibble, data_bytes, channel_message
 use Rattle.wire.specs.SystemCommon.{common_message}
 use Rattle.wire.specs.RealTime.{realtime_of}
 use Rattle.wire.proofs.DataLength.{none_above}
-use Rattle.wire.proofs.ReadBack.{data_length_of_channel}
-use Rattle.wire.proofs.channel_message.Bytes.{nibble_range}
 use Rattle.decoder.specs.declared.Class.{Class}
 use Rattle.decoder.specs.declared.Class.TheVariants as k
 use Rattle.decoder.specs.State.{limit}
@@ -37,7 +35,8 @@ use Rattle.damage.specs.Sent.{Message, Voice, Common, Frame, sendable, event_of}
 use Rattle.damage.proofs.Ahead.{next_status, next_data}
 use Rattle.damage.proofs.MessagesRead.{common_lengths}
 use Rattle.running_status.specs.RunningStatus.{shortened, running_after}
-use Rattle.running_status.proofs.Missing.{part_of, missing_once, common_byte, common_size, missing, frame_length, common_is_one_more, once_at_most}
+use Rattle.running_status.proofs.Waiting.{left_over, channel_fits, voice_status, voice_in_force}
+use Rattle.running_status.proofs.Missing.{missing_once, common_byte, common_size, missing, frame_length, common_is_one_more, once_at_most}
 
 -- two lists of reports that differ
 pub apart : {P : Type 0} → ◌≡◌ {A = ℕ} 0 1 → P
@@ -125,13 +124,6 @@ message_own v p q m e = of_channel (channel_message v p q) (nibble_is v p q) e
 abbrev pub Settled : Option ℕ → ℕ → List ℕ → Type 0
 Settled st v xs = (m : Message) → sendable m ≡ true → missing v xs m ≡ length (shortened st m)
 
--- a channel message in range has a status byte 80 to EF, which takes its data
-voice_status : (c : Channel) (m : ChannelMessage) → c.0 < 16
-    → (is_channel_status (status_nibble m + c.0) ≡ true) × (data_length (status_nibble m + c.0) ≡ length (data_bytes m))
-voice_status c m low =
-    let range = nibble_range m in
-    (rw (le-leb 0x80 (status_nibble m + c.0) (omega arith), lt-ltb (status_nibble m + c.0) 0xF0 (omega arith)), data_length_of_channel c.0 m low)
-
 -- a system common message has a status byte beyond EF, which takes its data, and it is no frame's
 common_status : (m : SystemCommon) → (0xF0 < common_byte m) × (data_length (common_byte m) ≡ common_size m)
 common_status (y.TimeCodeQuarterFrame a) = (omega arith, common_lengths.0)
@@ -146,16 +138,12 @@ channel_below v in-force = ltb-true v 0xF0 (both (leb 0x80 v) (ltb v 0xF0) in-fo
 not_channel : (v : ℕ) → 0xF0 ≤ v → is_channel_status v ≡ false
 not_channel v h = rw (le-leb 0x80 v (omega arith), le-ltb v 0xF0 h)
 
--- a sendable channel message's channel
-channel_fits : (c : Channel) (m : ChannelMessage) → sendable (Voice c m) ≡ true → c.0 < 16
-channel_fits c m ok = ltb-true _ _ (both _ _ (both _ _ ok).0).0
-
 -- nothing in force: neither a channel status nor F0, and what a status that serves once takes has come
 pub settled_without : (v : ℕ) (xs : List ℕ) → is_channel_status v ≡ false → (v ≡ 0xF0 → ⊥) → data_length v ≤ length xs → Settled None v xs
 settled_without v xs plain start full (Voice c m) ok = rw (ne_eqb v (status_nibble m + c.0) other) (omega arith)
   where
     other : v ≡ status_nibble m + c.0 → ⊥
-    other e = true_is_not_false (sym (voice_status c m (channel_fits c m ok)).0 ∙ ap is_channel_status (sym e) ∙ plain)
+    other e = true_is_not_false (sym (voice_in_force c m (channel_fits c m ok)) ∙ ap is_channel_status (sym e) ∙ plain)
 settled_without v xs plain start full (Common m) ok = served (common_byte m) (common_status m).1 ∙ sym (common_is_one_more m)
   where
     served : (f : ℕ) → data_length f ≡ common_size m → missing_once (eqb v f) (common_size m) (length xs) ≡ 1 + common_size m
@@ -168,12 +156,12 @@ settled_without v xs plain start full (Common m) ok = served (common_byte m) (co
 settled_without v xs plain start full (Frame ys) ok = rw (ne_eqb v 0xF0 start) (sym (frame_length ys))
 
 -- a channel status in force, and no data byte that waits for another
-settled_running : (v : ℕ) (xs : List ℕ) → is_channel_status v ≡ true → part_of (data_length v) (length xs) ≡ 0 → Settled (Some v) v xs
+settled_running : (v : ℕ) (xs : List ℕ) → is_channel_status v ≡ true → left_over (data_length v) (length xs) ≡ 0 → Settled (Some v) v xs
 settled_running v xs in-force none (Voice c m) ok =
     split (eqb v (status_nibble m + c.0))
     (λ (e : eqb v (status_nibble m + c.0) ≡ true).
-    let same : data_length v ≡ length (data_bytes m) = ap data_length (eqb-true _ _ e) ∙ (voice_status c m (channel_fits c m ok)).1 in
-    let no-part : part_of (length (data_bytes m)) (length xs) ≡ 0 = ap (λ (n : ℕ). part_of n (length xs)) (sym same) ∙ none in
+    let same : data_length v ≡ length (data_bytes m) = ap data_length (eqb-true _ _ e) ∙ (voice_status c m (channel_fits c m ok)).2 in
+    let no-part : left_over (length (data_bytes m)) (length xs) ≡ 0 = ap (λ (n : ℕ). left_over n (length xs)) (sym same) ∙ none in
     rw (e, no-part) (omega arith))
     (λ (e : eqb v (status_nibble m + c.0) ≡ false). rw e (omega arith))
 settled_running v xs in-force none (Common m) ok =
@@ -194,9 +182,8 @@ module _ (v : ℕ) (xs : List ℕ) (b : ℕ) (end : ends_message v (data_length 
 
   ends_voice : (c : Channel) (m : ChannelMessage) → v ≡ status_nibble m + c.0 → c.0 < 16 → LastMissing k.Data v xs b (Voice c m)
   ends_voice c m e low =
-      let status = voice_status c m low in
-      let in-force : is_channel_status v ≡ true = ap is_channel_status e ∙ status.0 in
-      let takes : data_length v ≡ length (data_bytes m) = ap data_length e ∙ status.1 in
+      let in-force : is_channel_status v ≡ true = ap is_channel_status e ∙ voice_in_force c m low in
+      let takes : data_length v ≡ length (data_bytes m) = ap data_length e ∙ (voice_status c m low).2 in
       let tested : pick (leb (data_length v) 1) true (eqb (length xs % 2) 1) ≡ true = rw in-force at end in
       record {
         last = rw (eq-eqb v (status_nibble m + c.0) e, sym takes) (few (leb (data_length v) 1) refl tested);

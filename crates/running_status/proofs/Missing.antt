@@ -18,10 +18,7 @@ use Rattle.decoder.specs.declared.Class.{Class}
 use Rattle.decoder.specs.declared.Class.TheVariants as k
 use Rattle.damage.specs.Sent.{Message, Voice, Common, Frame, bytes_of}
 use Rattle.damage.proofs.Ahead.{next_status, next_data}
-
--- of n data bytes, how many are there behind a channel status with k data bytes since
-abbrev pub part_of : ℕ → ℕ → ℕ
-part_of n k = pick (leb n 1) 0 (k % 2)
+use Rattle.running_status.proofs.Waiting.{left_over}
 
 -- of a status that serves once, with n data bytes of which k are there: the rest, and all again where none is left to come
 abbrev pub missing_once : Bool → ℕ → ℕ → ℕ
@@ -37,7 +34,7 @@ common_size m = length (common_bytes m) - 1
 -- how many bytes are missing of a message behind the last status byte v and the data bytes xs since
 abbrev pub missing : ℕ → List ℕ → Message → ℕ
 missing v xs (Voice c m) =
-    pick (eqb v (status_nibble m + c.0)) (length (data_bytes m) - part_of (length (data_bytes m)) (length xs)) (1 + length (data_bytes m))
+    pick (eqb v (status_nibble m + c.0)) (length (data_bytes m) - left_over (length (data_bytes m)) (length xs)) (1 + length (data_bytes m))
 missing v xs (Common m) = missing_once (eqb v (common_byte m)) (common_size m) (length xs)
 missing v xs (Frame ys) = pick (eqb v 0xF0) (length ys - length xs + 1) (length ys + 2)
 

@@ -4,17 +4,14 @@ use Rattle.std.specs.Prelude.{None, Option, Some}
 use mathlib.Core.Path.{◌≡◌, refl, sym, ◌∙◌, ap, ap₂, subst}
 use mathlib.Core.Bool.{true}
 use mathlib.Core.List.{List, [], ◌∷◌, ◌++◌}
-use Prim.Native.Nat.{ℕ, ◌+◌, ◌<◌}
-use native.Mathlib.Omega.{arith}
+use Prim.Native.Nat.{ℕ, ◌<◌}
 use lib.Dec.{ltb, leb}
 use lib.ListN.{length, take}
 use lib.Seq.{take_at}
-use borrow.Author.Tests.{ltb-true, lt-ltb, le-leb}
+use borrow.Author.Tests.{ltb-true}
 use Rattle.refusal.specs.Outcome.{Outcome, gives, refused, unless, and_then, with_room, after}
 use Rattle.refusal.proofs.Given.{passed, passed_on}
-use Rattle.wire.specs.ChannelMessage.{status_nibble}
 use Rattle.wire.specs.SystemCommon.{common, common_in_range}
-use Rattle.wire.proofs.channel_message.Bytes.{nibble_range}
 use Rattle.decoder.specs.State.{limit}
 use Rattle.framing.specs.Framing.{framed, body, first_high, when_seven_bit}
 use Rattle.framing.proofs.Bytes.{framed_is, no_high}
@@ -26,6 +23,7 @@ use Rattle.running_status.specs.RunningStatus.{is_running, shortened, Item, item
 use Rattle.running_status.specs.Chain.{chain}
 use Rattle.running_status.specs.Sending.{Handed, plain, item_handed, handed_out, state_kept, gone_out, items_accepted, Sending, no_call, one_call}
 use Rattle.running_status.specs.Sending as g
+use Rattle.running_status.proofs.Waiting.{voice_in_force}
 
 -- what fitted was given
 fitted : (room : ℕ) (bytes w : List ℕ) → with_room room bytes ≡ gives w → w ≡ bytes
@@ -37,8 +35,7 @@ item_passed : (st : Option ℕ) (m : Outgoing) (next : Outcome (List ℕ)) (w : 
     → (next ≡ gives w) × (is_running (state_behind st (item_of m)) ≡ true)
 item_passed st (o.Channel c m) next w fine e =
     let small : c.0 < 16 = ltb-true _ _ (passed (ltb c.0 16) 17 _ next w e) in
-    let range = nibble_range m in
-    (passed_on (ltb c.0 16) 17 _ next w e, rw (le-leb 0x80 (status_nibble m + c.0) (omega arith), lt-ltb (status_nibble m + c.0) 0xF0 (omega arith)))
+    (passed_on (ltb c.0 16) 17 _ next w e, voice_in_force c m small)
 item_passed st (o.Common k v) next w fine e = (passed_on (common_in_range (common k v)) 21 _ next w e, refl)
 item_passed st (o.Realtime x) next w fine e = (e, fine)
 
@@ -48,7 +45,7 @@ frame_whole None xs = refl
 frame_whole (Some b) xs = refl
 
 -- what an accepted call writes is its message's bytes, and the state behind it is one of the writer's
-accepted_writes : (st : Option ℕ) (x : Handed) (room : ℕ) (w : List ℕ) → is_running st ≡ true → handed_out st x room ≡ gives w
+pub accepted_writes : (st : Option ℕ) (x : Handed) (room : ℕ) (w : List ℕ) → is_running st ≡ true → handed_out st x room ≡ gives w
     → (w ≡ item_bytes st (item_handed x)) × (is_running (state_behind st (item_handed x)) ≡ true)
 accepted_writes st (plain m) room w fine e =
     let bytes = item_bytes st (item_of m) in

@@ -8,7 +8,7 @@ use Prim.Native.Nat.{ℕ, ◌+◌, ◌%◌, ◌/◌, ◌<◌}
 use native.Mathlib.Omega.{arith}
 use lib.Dec.{ltb, leb}
 use lib.ListN.{length, get_or, drop, length-append}
-use borrow.Author.Tests.{ltb-true, leb-false, eqb-true, lt-ltb, le-leb, eq-eqb, ne_eqb}
+use borrow.Author.Tests.{ltb-true, leb-false, eqb-true, eq-eqb, ne_eqb}
 use Rattle.laws.proofs.Tests.{by_test, split, true_is_not_false, both}
 use Rattle.refusal.specs.Outcome.{gives}
 use Rattle.wire.specs.Status.{data_length, is_channel_status}
@@ -26,7 +26,7 @@ use Rattle.damage.proofs.Matches.{last_is}
 use Rattle.damage.proofs.MessagesRead.{Reads, reads_as, Known, voice, end_status, end_data, message_reads, closed_behind}
 use Rattle.running_status.specs.RunningStatus.{omits, running_after}
 use Rattle.running_status.specs.Stream.{Stream, nothing, whole, bare}
-use Rattle.running_status.proofs.Waiting.{left_over, voice_status}
+use Rattle.running_status.proofs.Waiting.{left_over, channel_fits, voice_status, voice_in_force}
 
 -- the last status byte v is the sender's running status, and of the data bytes xs since none waits
 abbrev pub Agrees : Option ℕ → ℕ → List ℕ → Type 0
@@ -47,7 +47,7 @@ none_waits m xs even = split (leb (length (data_bytes m)) 1) (λ l. rw l) two
 -- the state behind a message with its own status byte agrees
 agrees_behind : (m : Message) → sendable m ≡ true → Agrees (running_after m) (end_status m) (end_data m)
 agrees_behind (Voice c m) ok =
-    (refl, rw ((voice_status c m ok).2) (none_waits m [] (by_test (λ (n : ℕ). n ≡ 0) (leb (length (data_bytes m)) 1) _ _ (λ l. refl) (λ l. refl))))
+    (refl, rw ((voice_status c m (channel_fits c m ok)).2) (none_waits m [] (by_test (λ (n : ℕ). n ≡ 0) (leb (length (data_bytes m)) 1) _ _ (λ l. refl) (λ l. refl))))
 agrees_behind (Common m) ok = tt
 agrees_behind (Frame xs) ok = tt
 
@@ -83,7 +83,7 @@ bare_voice c m ok xs rest even after = go m refl
     known = voice c m ok
 
     in_force : is_channel_status v ≡ true
-    in_force = let range = voice_status c m ok in rw (le-leb 0x80 v range.0, lt-ltb v 0xF0 range.1)
+    in_force = voice_in_force c m (channel_fits c m ok)
 
     means : (l : List ℕ) → data_bytes m ≡ l → message v (get_or l 0 0) (get_or l 1 0) ≡ gives (channel c m) ∷ []
     means l is = subst (λ (z : List ℕ). message v (get_or z 0 0) (get_or z 1 0) ≡ gives (channel c m) ∷ []) is known.means
@@ -114,7 +114,7 @@ bare_read : (st : Option ℕ) (m : Message) → omits st m ≡ true → sendable
 bare_read None m om ok v xs ts a after = absurd (true_is_not_false (sym om))
 bare_read (Some b) (Voice c m) om ok v xs ts a after =
     let here : v ≡ status_nibble m + c.0 = a.0 ∙ eqb-true _ _ om in
-    let range = voice_status c m ok in
+    let range = voice_status c m (channel_fits c m ok) in
     let even : left_over (length (data_bytes m)) (length xs) ≡ 0 = rw (eqb-true _ _ om, range.2) at a.1 in
     let shut : (ys : List ℕ) → is_open v ys ≡ false = λ (ys : List ℕ). rw (ne_eqb v 0xF0 (λ q. omega (arith, range.1))) in
     let ys = xs ++ data_bytes m in

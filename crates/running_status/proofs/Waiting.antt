@@ -6,10 +6,10 @@ use Prim.Native.Nat.{ℕ, ◌+◌, ◌%◌, ◌≤◌, ◌<◌}
 use native.Mathlib.Omega.{arith}
 use lib.Dec.{leb}
 use lib.ListN.{length}
-use borrow.Author.Tests.{ltb-true}
+use borrow.Author.Tests.{ltb-true, lt-ltb, le-leb}
 use Rattle.laws.specs.Choice.{pick}
 use Rattle.laws.proofs.Tests.{both}
-use Rattle.wire.specs.Status.{data_length}
+use Rattle.wire.specs.Status.{data_length, is_channel_status}
 use Rattle.wire.specs.declared.Channel.{Channel}
 use Rattle.wire.specs.declared.channel_message.ChannelMessage.{ChannelMessage}
 use Rattle.wire.specs.ChannelMessage.{status_nibble, data_bytes}
@@ -21,10 +21,19 @@ use Rattle.damage.specs.Sent.{Voice, sendable}
 abbrev pub left_over : ℕ → ℕ → ℕ
 left_over n k = pick (leb n 1) 0 (k % 2)
 
--- an in-range channel message's status byte is 80 to EF, and takes its data bytes
-pub voice_status : (c : Channel) (m : ChannelMessage) → sendable (Voice c m) ≡ true
+-- an in-range message's channel
+pub channel_fits : (c : Channel) (m : ChannelMessage) → sendable (Voice c m) ≡ true → c.0 < 16
+channel_fits c m ok = ltb-true _ _ (both _ _ (both _ _ ok).0).0
+
+-- on a channel below 16 a channel message's status byte is 80 to EF, and takes its data bytes
+pub voice_status : (c : Channel) (m : ChannelMessage) → c.0 < 16
     → (0x80 ≤ status_nibble m + c.0) × (status_nibble m + c.0 < 0xF0) × (data_length (status_nibble m + c.0) ≡ length (data_bytes m))
-voice_status c m ok =
-    let low : c.0 < 16 = ltb-true _ _ (both _ _ (both _ _ ok).0).0 in
+voice_status c m low =
     let range = nibble_range m in
     (omega arith, omega arith, data_length_of_channel c.0 m low)
+
+-- so it is a channel status
+pub voice_in_force : (c : Channel) (m : ChannelMessage) → c.0 < 16 → is_channel_status (status_nibble m + c.0) ≡ true
+voice_in_force c m low =
+    let range = voice_status c m low in
+    rw (le-leb 0x80 (status_nibble m + c.0) range.0, lt-ltb (status_nibble m + c.0) 0xF0 range.1)
