@@ -1,11 +1,12 @@
 // Exports dm_running_fresh, dm_running_channel, dm_running_common, dm_running_realtime and dm_running_frame, the entry points of the writer that leaves
 // out status bytes.
-ghost use Rattle.std.specs.Prelude.{◌≡◌};
+ghost use Rattle.std.specs.Prelude.{◌≡◌, Some};
 ghost use Rattle.wire.specs.ChannelMessage.{channel_kind};
 ghost use Rattle.wire.specs.SystemCommon.{common_status};
 ghost use Rattle.wire.specs.RealTime.{realtime_of};
+ghost use Rattle.running_status.specs.Sending.{framed};
 ghost use Rattle.host_answer.specs.Answer.{Sends};
-ghost use Rattle.host_running_status.specs.Running.{channel_named, common_named, realtime_named, running_fresh, of_numbers, of_frame, HandedSent};
+ghost use Rattle.host_running_status.specs.Running.{channel_named, common_named, realtime_named, running_fresh, plain_named, HandedSent};
 
 use host_answer::Answer;
 
@@ -28,7 +29,7 @@ pub extern "C" fn dm_running_channel(
     b: u8,
     out: &mut [u8],
 ) -> Answer
-    ensures { HandedSent (of_numbers (channel_named (channel_kind nibble a b) channel)) result state.old state.new out.old out.new }
+    ensures { HandedSent (plain_named (channel_named (channel_kind nibble a b) channel)) result state.old state.new out.old out.new }
 {
     host_running_status::dm_running_channel(state, nibble, channel, a, b, out)
 }
@@ -42,7 +43,7 @@ pub extern "C" fn dm_running_common(
     value: u16,
     out: &mut [u8],
 ) -> Answer
-    ensures { HandedSent (of_numbers (common_named (common_status status) value)) result state.old state.new out.old out.new }
+    ensures { HandedSent (plain_named (common_named (common_status status) value)) result state.old state.new out.old out.new }
 {
     host_running_status::dm_running_common(state, status, value, out)
 }
@@ -50,7 +51,7 @@ pub extern "C" fn dm_running_common(
 // Writes a real-time message. Refuses 20 for the state, NO_RECORD for a byte that is none, then 14.
 #[unsafe(no_mangle)]
 pub extern "C" fn dm_running_realtime(state: &mut [u8], byte: u8, out: &mut [u8]) -> Answer
-    ensures { HandedSent (of_numbers (realtime_named (realtime_of byte))) result state.old state.new out.old out.new }
+    ensures { HandedSent (plain_named (realtime_named (realtime_of byte))) result state.old state.new out.old out.new }
 {
     host_running_status::dm_running_realtime(state, byte, out)
 }
@@ -58,7 +59,7 @@ pub extern "C" fn dm_running_realtime(state: &mut [u8], byte: u8, out: &mut [u8]
 // Writes a frame, given as its bytes from F0 to F7. Refuses 20 for the state, then 1, 2, 19, 14.
 #[unsafe(no_mangle)]
 pub extern "C" fn dm_running_frame(state: &mut [u8], frame: &[u8], out: &mut [u8]) -> Answer
-    ensures { HandedSent (of_frame frame.now) result state.old state.new out.old out.new }
+    ensures { HandedSent (Some (framed frame.now)) result state.old state.new out.old out.new }
 {
     host_running_status::dm_running_frame(state, frame, out)
 }

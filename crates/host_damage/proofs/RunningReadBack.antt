@@ -29,9 +29,9 @@ use Rattle.running_status.proofs.ReadBack.{reads_back}
 use Rattle.running_status.proofs.Minimal.{no_shorter_read}
 use Rattle.host_answer.specs.declared.Answer.{Answer}
 use Rattle.host_answer.specs.Answer.{answer_of}
-use Rattle.host_running_status.specs.Running.{HostHanded, of_numbers, of_frame, host_out, host_behind, called_out, running_after_call, RunningSent, HandedSent}
+use Rattle.host_running_status.specs.Running.{host_out, host_behind, called_out, running_after_call, RunningSent, HandedSent}
 use Rattle.host_damage.specs.HostCalls.{by_host}
-use Rattle.host_damage.specs.RunningCalls.{items_named, items_told, bytes_told, HostSending, no_call, one_call, HostReadsBack}
+use Rattle.host_damage.specs.RunningCalls.{items_told, bytes_told, HostSending, no_call, one_call, HostReadsBack}
 use Rattle.host_damage.proofs.Condition3OfHost.{promises_by_host}
 
 -- a refusal of the writer has a number of document 01's table, and so is not told as 0
@@ -61,31 +61,30 @@ SentToo st is bytes = (last : Option ℕ) × Sending st is bytes last
 module _ (st : Option ℕ) (fine : is_running st ≡ true) (answer : Answer) (left out later : List ℕ) (is : List Item) (bytes : List ℕ)
     (rest : (next : Option ℕ) → left ≡ running_bytes next → is_running next ≡ true → SentToo next is bytes) where
   -- a call that was refused sends nothing, and leaves the state's bytes
-  refused_call : (x : HostHanded) (n : ℕ) (values : List ℕ) (next : Option ℕ) → (n ≡ 0 → ⊥)
+  refused_call : (x : Option Handed) (n : ℕ) (values : List ℕ) (next : Option ℕ) → (n ≡ 0 → ⊥)
       → RunningSent (refused n values) next answer (running_bytes st) left out later
       → SentToo st (items_told answer x ++ is) (bytes_told answer later ++ bytes)
   refused_call x n values next high met = rw (met.sends.answers, ne_eqb n 0 high) (rest st met.keeps fine)
 
   -- a call of the writer with what the host's call is handed
-  writer_call : (x : HostHanded) (h : Handed) → items_named x ≡ item_handed h ∷ [] → (a : Outcome (List ℕ)) → handed_out st h (length out) ≡ a → numbered a ≡ true
+  writer_call : (h : Handed) (a : Outcome (List ℕ)) → handed_out st h (length out) ≡ a → numbered a ≡ true
       → RunningSent a (state_behind st (item_handed h)) answer (running_bytes st) left out later
-      → SentToo st (items_told answer x ++ is) (bytes_told answer later ++ bytes)
-  writer_call x h named (gives w) e in-table met =
+      → SentToo st (items_told answer (Some h) ++ is) (bytes_told answer later ++ bytes)
+  writer_call h (gives w) e in-table met =
       let next = state_behind st (item_handed h) in
       let behind = rest next met.keeps (accepted_writes st h (length out) w fine e).1 in
-      rw (met.sends.answers, named)
+      rw met.sends.answers
       (behind.0, g.one_call {st = st} h out later (Ok (record { count = length w; state = next })) (record { answers = rw e; leaves = rw e met.sends.leaves }) behind.1)
-  writer_call x h named (refused n values) e in-table met =
-      refused_call x n values _ (λ z. omega (arith, leb-true 1 n (both (leb 1 n) (leb n 22) in-table).0, z)) met
+  writer_call h (refused n values) e in-table met =
+      refused_call (Some h) n values _ (λ z. omega (arith, leb-true 1 n (both (leb 1 n) (leb n 22) in-table).0, z)) met
 
-  any_call : (x : HostHanded) → RunningSent (host_out st x (length out)) (host_behind st x) answer (running_bytes st) left out later
+  any_call : (x : Option Handed) → RunningSent (host_out st x (length out)) (host_behind st x) answer (running_bytes st) left out later
       → SentToo st (items_told answer x ++ is) (bytes_told answer later ++ bytes)
-  any_call (of_numbers (Some m)) met = writer_call (of_numbers (Some m)) (plain m) refl _ refl (handed_numbered st (plain m) (length out)) met
-  any_call (of_numbers None) met = refused_call (of_numbers None) 255 [] st (λ z. omega arith) met
-  any_call (of_frame frame) met = writer_call (of_frame frame) (g.framed frame) refl _ refl (handed_numbered st (g.framed frame) (length out)) met
+  any_call (Some h) met = writer_call h _ refl (handed_numbered st h (length out)) met
+  any_call None met = refused_call None 255 [] st (λ z. omega arith) met
 
 -- a call on the bytes that say a state is a call on that state
-on_the_state : (st : Option ℕ) → is_running st ≡ true → (x : HostHanded) (room : ℕ)
+on_the_state : (st : Option ℕ) → is_running st ≡ true → (x : Option Handed) (room : ℕ)
     → (called_out (running_bytes st) x room ≡ host_out st x room) × (host_behind (running_of (running_bytes st)) x ≡ host_behind st x)
 on_the_state st fine x room = (
   ap (λ (t : Bool). unless t 20 [] (host_out (running_of (running_bytes st)) x room)) (bytes_say_running st ∙ fine)
@@ -105,7 +104,7 @@ sent_by_writer (one_call {state} {is} {bytes} x answer left out later met calls)
     (subst (λ (a : Outcome (List ℕ)). RunningSent a (host_behind (running_of (running_bytes st)) x) answer (running_bytes st) left out later) same.0 on_bytes))
 
 -- lists of calls exist: whatever is handed in, into whatever buffers, the contract has an answer
-pub host_sending_exists : (calls : List (HostHanded × List ℕ)) (state : List ℕ) → (is : List Item) × (bytes : List ℕ) × HostSending state is bytes
+pub host_sending_exists : (calls : List (Option Handed × List ℕ)) (state : List ℕ) → (is : List Item) × (bytes : List ℕ) × HostSending state is bytes
 host_sending_exists [] state = ([], [], no_call)
 host_sending_exists ((x, out) ∷ calls) state =
     let a = called_out state x (length out) in

@@ -1,25 +1,23 @@
 -- Lists of a C host's calls of dm_running_channel, _common, _realtime and _frame that were made, refused ones among them, into any buffers.
-use Rattle.std.specs.Prelude.{◌≡◌, true, List, [], ◌∷◌, ◌++◌, ℕ, ◌≤◌, eqb, take, None, Some}
+use Rattle.std.specs.Prelude.{◌≡◌, true, List, [], ◌∷◌, ◌++◌, ℕ, ◌≤◌, eqb, take, None, Option, Some}
 use Rattle.laws.specs.Choice.{pick}
 use Rattle.decoder.specs.State.{limit}
-use Rattle.framing.specs.Framing.{body}
-use Rattle.damage.specs.Sent.{Frame}
 use Rattle.damage.specs.Caller.{Call, CallLog, Made, Exactly}
-use Rattle.running_status.specs.RunningStatus.{Item, OfMessage, item_of}
+use Rattle.running_status.specs.RunningStatus.{Item}
+use Rattle.running_status.specs.Sending.{Handed, item_handed}
 use Rattle.running_status.specs.StateBytes.{running_bytes}
-use Rattle.running_status.specs.Chain.{all_fit, chain_reports}
+use Rattle.running_status.specs.Chain.{items_fit, chain_reports}
 use Rattle.host_answer.specs.declared.Answer.{Answer}
-use Rattle.host_running_status.specs.Running.{HostHanded, of_numbers, of_frame, HandedSent}
+use Rattle.host_running_status.specs.Running.{HandedSent}
 use Rattle.host_damage.specs.HostCalls.{by_host}
 
 -- the message that a call is handed, where its numbers name one
-abbrev pub items_named : HostHanded → List Item
-items_named (of_numbers (Some m)) = item_of m ∷ []
-items_named (of_numbers None) = []
-items_named (of_frame frame) = OfMessage (Frame (body frame)) ∷ []
+abbrev pub items_named : Option Handed → List Item
+items_named (Some x) = item_handed x ∷ []
+items_named None = []
 
 -- a call that answers number 0 accepted its message; any other answer refused it
-abbrev pub items_told : Answer → HostHanded → List Item
+abbrev pub items_told : Answer → Option Handed → List Item
 items_told answer x = pick (eqb answer.number 0) (items_named x) []
 
 -- what a host then sends: as many bytes of the buffer's front as the value says
@@ -30,7 +28,7 @@ bytes_told answer buffer = pick (eqb answer.number 0) (take answer.value buffer)
 -- bytes as this one left them
 pub data HostSending : List ℕ → List Item → List ℕ → Type 0 where
   no_call : {state : List ℕ} → HostSending state [] []
-  one_call : {state : List ℕ} {is : List Item} {bytes : List ℕ} (x : HostHanded) (answer : Answer) (left out later : List ℕ)
+  one_call : {state : List ℕ} {is : List Item} {bytes : List ℕ} (x : Option Handed) (answer : Answer) (left out later : List ℕ)
       → HandedSent x answer state left out later
       → HostSending left is bytes
       → HostSending state (items_told answer x ++ is) (bytes_told answer later ++ bytes)
@@ -39,6 +37,6 @@ pub data HostSending : List ℕ → List Item → List ℕ → Type 0 where
 -- that dm_running_fresh leaves, read by any list of dm_feed calls
 abbrev pub HostReadsBack : List ℕ → Type 0
 HostReadsBack start =
-    (is : List Item) (bytes : List ℕ) → HostSending (running_bytes None) is bytes → all_fit is ≡ true
+    (is : List Item) (bytes : List ℕ) → HostSending (running_bytes None) is bytes → items_fit is ≡ true
     → (store : List ℕ) → limit ≤ by_host.size store → (cs : List (Call by_host)) (log : CallLog) → Made by_host cs start store bytes log
     → Exactly cs (chain_reports None is) log

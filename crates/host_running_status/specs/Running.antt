@@ -6,7 +6,8 @@ use Rattle.wire.specs.declared.system_common.CommonStatus.{CommonStatus}
 use Rattle.wire.specs.declared.real_time.Realtime.{Realtime}
 use Rattle.running_status.specs.declared.Outgoing.{Outgoing}
 use Rattle.running_status.specs.declared.Outgoing.TheVariants as o
-use Rattle.running_status.specs.RunningStatus.{item_of, state_behind, message_out, frame_out}
+use Rattle.running_status.specs.RunningStatus.{state_behind}
+use Rattle.running_status.specs.Sending.{Handed, plain, item_handed, handed_out}
 use Rattle.running_status.specs.StateBytes.{running_bytes, says_running, running_of}
 use Rattle.host_answer.specs.declared.Answer.{Answer}
 use Rattle.host_answer.specs.Answer.{Sends}
@@ -25,25 +26,23 @@ abbrev pub realtime_named : Option Realtime → Option Outgoing
 realtime_named (Some x) = Some (o.Realtime x)
 realtime_named None = None
 
--- what a call is handed: numbers, which may name a message that is no frame, or a frame's bytes
-pub data HostHanded : Type 0 where
-  of_numbers : Option Outgoing → HostHanded
-  of_frame : List ℕ → HostHanded
+-- what a call with such numbers is handed
+abbrev pub plain_named : Option Outgoing → Option Handed
+plain_named (Some m) = Some (plain m)
+plain_named None = None
 
--- what the writer does; 255 where no record names the message
-abbrev pub host_out : Option ℕ → HostHanded → ℕ → Outcome (List ℕ)
-host_out st (of_numbers (Some m)) room = message_out st m room
-host_out st (of_numbers None) room = refused 255 []
-host_out st (of_frame frame) room = frame_out st frame room
+-- what the writer does with what a call is handed, a frame's bytes too; 255 where no record names the message
+abbrev pub host_out : Option ℕ → Option Handed → ℕ → Outcome (List ℕ)
+host_out st (Some x) room = handed_out st x room
+host_out st None room = refused 255 []
 
 -- the state behind it
-abbrev pub host_behind : Option ℕ → HostHanded → Option ℕ
-host_behind st (of_numbers (Some m)) = state_behind st (item_of m)
-host_behind st (of_numbers None) = st
-host_behind st (of_frame frame) = None
+abbrev pub host_behind : Option ℕ → Option Handed → Option ℕ
+host_behind st (Some x) = state_behind st (item_handed x)
+host_behind st None = st
 
 -- 20 for bytes that are no state, "tested first, nothing used"; then what the writer does
-abbrev pub called_out : List ℕ → HostHanded → ℕ → Outcome (List ℕ)
+abbrev pub called_out : List ℕ → Option Handed → ℕ → Outcome (List ℕ)
 called_out state x room = unless (says_running state) 20 [] (host_out (running_of state) x room)
 
 -- the state's bytes afterwards: "the state is kept" where the call is refused
@@ -57,7 +56,7 @@ pub record RunningSent (result : Outcome (List ℕ)) (next : Option ℕ) (answer
   pub keeps : state_later ≡ running_after_call result next state
 
 -- a call on the state that the bytes say
-abbrev pub HandedSent : HostHanded → Answer → List ℕ → List ℕ → List ℕ → List ℕ → Type 0
+abbrev pub HandedSent : Option Handed → Answer → List ℕ → List ℕ → List ℕ → List ℕ → Type 0
 HandedSent x answer state state_later out out_later =
     RunningSent (called_out state x (length out)) (host_behind (running_of state) x) answer state state_later out out_later
 

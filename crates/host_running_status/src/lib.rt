@@ -1,12 +1,13 @@
 // The C entry points of the writer that leaves out status bytes. Its state crosses as RUNNING_LEN bytes that the caller keeps.
 #![tactic(auto)]
 
-ghost use Rattle.std.specs.Prelude.{◌≡◌, length};
+ghost use Rattle.std.specs.Prelude.{◌≡◌, Some};
 ghost use Rattle.wire.specs.ChannelMessage.{channel_kind};
 ghost use Rattle.wire.specs.SystemCommon.{common_status};
 ghost use Rattle.wire.specs.RealTime.{realtime_of};
+ghost use Rattle.running_status.specs.Sending.{framed};
 ghost use Rattle.host_answer.specs.Answer.{Sends};
-ghost use Rattle.host_running_status.specs.Running.{channel_named, common_named, realtime_named, running_fresh, of_numbers, of_frame, HandedSent};
+ghost use Rattle.host_running_status.specs.Running.{channel_named, common_named, realtime_named, running_fresh, plain_named, HandedSent};
 
 use host_answer::Answer;
 use refusal::Refusal;
@@ -35,7 +36,7 @@ pub fn dm_running_channel(
     b: u8,
     out: &mut [u8],
 ) -> Answer
-    ensures { HandedSent (of_numbers (channel_named (channel_kind nibble a b) channel)) result state.old state.new out.old out.new }
+    ensures { HandedSent (plain_named (channel_named (channel_kind nibble a b) channel)) result state.old state.new out.old out.new }
 {
     let named = ChannelMessage::from_nibble(nibble, a, b).map(|message| Outgoing::Channel {
         channel: Channel(channel),
@@ -47,7 +48,7 @@ pub fn dm_running_channel(
 // Writes a system common message by its status byte; a tune request's value is not looked at. Refuses 20 for the state, NO_RECORD for another byte, then
 // 21, 14.
 pub fn dm_running_common(state: &mut [u8], status: u8, value: u16, out: &mut [u8]) -> Answer
-    ensures { HandedSent (of_numbers (common_named (common_status status) value)) result state.old state.new out.old out.new }
+    ensures { HandedSent (plain_named (common_named (common_status status) value)) result state.old state.new out.old out.new }
 {
     let named = CommonStatus::from_status(status).map(|status| Outgoing::Common { status, value });
     send(state, named, out)
@@ -55,7 +56,7 @@ pub fn dm_running_common(state: &mut [u8], status: u8, value: u16, out: &mut [u8
 
 // Writes a real-time message. Refuses 20 for the state, NO_RECORD for a byte that is none, then 14.
 pub fn dm_running_realtime(state: &mut [u8], byte: u8, out: &mut [u8]) -> Answer
-    ensures { HandedSent (of_numbers (realtime_named (realtime_of byte))) result state.old state.new out.old out.new }
+    ensures { HandedSent (plain_named (realtime_named (realtime_of byte))) result state.old state.new out.old out.new }
 {
     let named = Realtime::from_status(byte).map(|message| Outgoing::Realtime(message));
     send(state, named, out)
@@ -63,7 +64,7 @@ pub fn dm_running_realtime(state: &mut [u8], byte: u8, out: &mut [u8]) -> Answer
 
 // Writes a frame, given as its bytes from F0 to F7. Refuses 20 for the state, then 1, 2, 19, 14.
 pub fn dm_running_frame(state: &mut [u8], frame: &[u8], out: &mut [u8]) -> Answer
-    ensures { HandedSent (of_frame frame.now) result state.old state.new out.old out.new }
+    ensures { HandedSent (Some (framed frame.now)) result state.old state.new out.old out.new }
 {
     let Some(bytes) = state.as_mut_array::<RUNNING_LEN>() else {
         return Answer::from(Refusal::BadStore);
@@ -82,7 +83,7 @@ pub fn dm_running_frame(state: &mut [u8], frame: &[u8], out: &mut [u8]) -> Answe
 
 // Writes the message that plain numbers name, where a record names it.
 fn send(state: &mut [u8], named: Option<Outgoing>, out: &mut [u8]) -> Answer
-    ensures { HandedSent (of_numbers named) result state.old state.new out.old out.new }
+    ensures { HandedSent (plain_named named) result state.old state.new out.old out.new }
 {
     let Some(bytes) = state.as_mut_array::<RUNNING_LEN>() else {
         return Answer::from(Refusal::BadStore);

@@ -34,11 +34,13 @@ use Rattle.damage.specs.History.{interruption, heard_common, heard_message, mess
 use Rattle.damage.specs.Sent.{sendable, event_of}
 use Rattle.damage.specs.Caller.{Caller, total_used}
 use Rattle.damage.specs.Calls.{by_value}
+use Rattle.damage.specs.InPlaceCalls.{in_place}
 use Rattle.damage.specs.Meaning.{CallsMean}
 use Rattle.damage.proofs.Ahead.{next_status, next_data, status_and_data_after, meaning_take}
 use Rattle.damage.proofs.ByValue.{promises_by_value}
+use Rattle.damage.proofs.Condition3InPlace.{promises_in_place}
 use Rattle.running_status.specs.RunningStatus.{Item, OfMessage, OfRealtime, shortened, running_after}
-use Rattle.running_status.specs.Chain.{all_fit, chain, item_reports, in_order}
+use Rattle.running_status.specs.Chain.{items_fit, chain, item_reports, in_order}
 use Rattle.running_status.specs.ReadBack.{NoShorter}
 use Rattle.running_status.proofs.Missing.{missing, one_byte_brings_one}
 use Rattle.running_status.proofs.LastMissing.{apart, nothing_said, too_long_said, only_breaks_off, Settled, settled_without, last_missing}
@@ -57,12 +59,12 @@ one_byte_of_all c v xs b (OfMessage m ∷ is) = omega (arith, one_byte_brings_on
 one_byte_of_all c v xs b (OfRealtime x ∷ is) = omega (arith, one_byte_of_all c v xs b is)
 
 -- where nothing waits, it is what the writer writes
-missing_is_written : (st : Option ℕ) (v : ℕ) (xs : List ℕ) (is : List Item) → all_fit is ≡ true → Settled st v xs
+missing_is_written : (st : Option ℕ) (v : ℕ) (xs : List ℕ) (is : List Item) → items_fit is ≡ true → Settled st v xs
     → all_missing v xs is ≡ length (chain st is)
 unfolding chain
 missing_is_written st v xs [] ok h = refl
 missing_is_written st v xs (OfMessage m ∷ is) ok h =
-    ap (λ (n : ℕ). n + length (chain (running_after m) is)) (h m (both (sendable m) (all_fit is) ok).0)
+    ap (λ (n : ℕ). n + length (chain (running_after m) is)) (h m (both (sendable m) (items_fit is) ok).0)
     ∙ sym (length-append (shortened st m) (chain (running_after m) is))
 missing_is_written st v xs (OfRealtime x ∷ is) ok h = omega (arith, missing_is_written st v xs is ok h)
 
@@ -154,13 +156,13 @@ realtime_alone k.Realtime v xs b x e = (refl, refl)
 
 -- one byte in front of others that are as many as are missing behind it
 module _ (c : Class) (v : ℕ) (xs : List ℕ) (b : ℕ) (range : Range c b) (rest : List Reported) (n : ℕ)
-    (next : (is : List Item) → all_fit is ≡ true → rest ≡ item_reports is → all_missing (next_status c v b) (next_data c xs b) is ≤ n) where
-  one_more : (h : List Reported) → heard_in c v xs b ≡ h → ByteSays h → (is : List Item) → all_fit is ≡ true → h ++ rest ≡ item_reports is
+    (next : (is : List Item) → items_fit is ≡ true → rest ≡ item_reports is → all_missing (next_status c v b) (next_data c xs b) is ≤ n) where
+  one_more : (h : List Reported) → heard_in c v xs b ≡ h → ByteSays h → (is : List Item) → items_fit is ≡ true → h ++ rest ≡ item_reports is
       → all_missing v xs is ≤ 1 + n
   one_more h e says_nothing is ok says = omega (arith, one_byte_of_all c v xs b is, next is ok says)
   one_more h e (says_one x) [] ok says = omega arith
   one_more h e (says_one x) (OfMessage m ∷ is) ok says =
-      let fit = (both (sendable m) (all_fit is) ok).1 in
+      let fit = (both (sendable m) (items_fit is) ok).1 in
       let same : x ≡ gives (event_of m) = cc in
       let others : rest ≡ item_reports is = cc in
       let r = last_missing c v xs b m range (e ∙ ap (λ (z : Reported). z ∷ []) same) in
@@ -178,7 +180,7 @@ module _ (c : Class) (v : ℕ) (xs : List ℕ) (b : ℕ) (range : Range c b) (re
   one_more h e (says_18 more) (OfRealtime x ∷ is) ok says = let z : ◌≡◌ {A = Reported} report18 (gives (realtime x)) = cc in apart cc
 
 -- any bytes that read, behind a history, as exactly these messages are at least as many as are missing
-as_many_as_missing : (u past : List ℕ) (is : List Item) → all_fit is ≡ true → in_order (meaning past u) ≡ item_reports is
+as_many_as_missing : (u past : List ℕ) (is : List Item) → items_fit is ≡ true → in_order (meaning past u) ≡ item_reports is
     → all_missing (last_status past) (data_since past) is ≤ length u
 unfolding meaning heard
 as_many_as_missing [] past [] ok says = omega arith
@@ -189,7 +191,7 @@ as_many_as_missing (b ∷ bs) past is ok says =
     let v = last_status past in
     let xs = data_since past in
     let same = status_and_data_after c past b (range_of b) in
-    let next : (js : List Item) → all_fit js ≡ true → in_order (meaning (b ∷ past) bs) ≡ item_reports js
+    let next : (js : List Item) → items_fit js ≡ true → in_order (meaning (b ∷ past) bs) ≡ item_reports js
     → all_missing (next_status c v b) (next_data c xs b) js ≤ length bs =
     λ js fit e. subst (λ (w : ℕ). all_missing w (next_data c xs b) js ≤ length bs) same.0
     (subst (λ (ws : List ℕ). all_missing (last_status (b ∷ past)) ws js ≤ length bs) same.1 (as_many_as_missing bs (b ∷ past) js fit e)) in
@@ -201,7 +203,7 @@ nothing_yet : Settled None 0 []
 nothing_yet = settled_without 0 [] refl (λ e. omega arith) (omega (arith, none_of_data 0 (omega arith)))
 
 -- MINIMALITY: every byte string that history reads as exactly these messages is at least as long as what the writer writes of them from the state none
-pub no_shorter : (is : List Item) → all_fit is ≡ true → (u : List ℕ) → in_order (meaning [] u) ≡ item_reports is → length (chain None is) ≤ length u
+pub no_shorter : (is : List Item) → items_fit is ≡ true → (u : List ℕ) → in_order (meaning [] u) ≡ item_reports is → length (chain None is) ≤ length u
 no_shorter is ok u says = omega (arith, missing_is_written None 0 [] is ok nothing_yet, as_many_as_missing u [] is ok says)
 
 -- the same of every caller whose calls report what history says, since history of the bytes used is the first part of history of them all
@@ -214,3 +216,6 @@ no_shorter_read c start mean is ok store room any cs log made says =
 -- the same of the code's own calls, from every state that a reset leaves
 pub no_shorter_by_value : (d : Decoder) → NoShorter by_value (reset d)
 no_shorter_by_value d = no_shorter_read by_value (reset d) (promises_by_value d).calls_mean
+
+pub no_shorter_in_place : (d : Decoder) → NoShorter in_place (reset d)
+no_shorter_in_place d = no_shorter_read in_place (reset d) (promises_in_place d).calls_mean

@@ -24,12 +24,14 @@ use Rattle.damage.specs.Sent.{Message, Voice, Common, Frame, bytes_of, sendable,
 use Rattle.damage.specs.Sent.{Tag, tags, tagged, realtime_tag, Sent, nothing, own, between, bytes, intacts}
 use Rattle.damage.specs.Caller.{Caller, belonging, Exactly}
 use Rattle.damage.specs.Calls.{by_value}
+use Rattle.damage.specs.InPlaceCalls.{in_place}
 use Rattle.damage.specs.Meaning.{CallsMean}
 use Rattle.damage.proofs.Woven.{woven}
 use Rattle.damage.proofs.WritersRead.{bytes_of_tags, realtime_from_f8}
 use Rattle.damage.proofs.ByValue.{promises_by_value}
+use Rattle.damage.proofs.Condition3InPlace.{promises_in_place}
 use Rattle.running_status.specs.RunningStatus.{Item, OfMessage, OfRealtime, omits, running_after, item_bytes, state_behind}
-use Rattle.running_status.specs.Chain.{all_fit, chain, item_report, item_reports, in_order, chain_reports}
+use Rattle.running_status.specs.Chain.{items_fit, chain, item_report, item_reports, in_order, chain_reports}
 use Rattle.running_status.specs.Stream.{Stream}
 use Rattle.running_status.specs.Stream as z
 use Rattle.running_status.specs.ReadBack.{ReadsBack}
@@ -60,7 +62,7 @@ own_tags st [] = []
 own_tags st (OfMessage m ∷ is) = message_tags st m ++ own_tags (running_after m) is
 own_tags st (OfRealtime x ∷ is) = own_tags st is
 
-fit_messages : (is : List Item) → all_fit is ≡ true → all_sendable (own_messages is) ≡ true
+fit_messages : (is : List Item) → items_fit is ≡ true → all_sendable (own_messages is) ≡ true
 fit_messages [] ok = refl
 fit_messages (OfMessage m ∷ is) ok = let each = both _ _ ok in and_true (sendable m) (all_sendable (own_messages is)) each.0 (fit_messages is each.1)
 fit_messages (OfRealtime x ∷ is) ok = fit_messages is ok
@@ -140,7 +142,7 @@ tags_are_reports st (i ∷ is) =
     ∙ ap₂ (λ (x r : List (List Reported)). x ++ r) (one_reports st i) (tags_are_reports (state_behind st i) is)
 
 -- read-back byte by byte: each message's last byte reports it, and no other byte anything
-pub reads_back_singly : (is : List Item) → all_fit is ≡ true → meaning [] (chain None is) ≡ chain_reports None is
+pub reads_back_singly : (is : List Item) → items_fit is ≡ true → meaning [] (chain None is) ≡ chain_reports None is
 reads_back_singly is ok =
     ap (meaning []) (sym (chain_bytes None is)) ∙ woven (chain_sent None is) [] (stream_reads (chain_stream None is) (fit_messages is ok) 0 [] refl tt)
     ∙ tags_are_reports None is
@@ -176,3 +178,6 @@ reads_back c start mean is written last calls fit store room cs log made =
 -- READ-BACK of the code's own calls, from every state that a reset leaves
 pub reads_back_by_value : (d : Decoder) → ReadsBack by_value (reset d)
 reads_back_by_value d = reads_back by_value (reset d) (promises_by_value d).calls_mean
+
+pub reads_back_in_place : (d : Decoder) → ReadsBack in_place (reset d)
+reads_back_in_place d = reads_back in_place (reset d) (promises_in_place d).calls_mean

@@ -1,7 +1,6 @@
 -- A state's bytes say that state, and they are refused just where the state is.
 use Rattle.std.specs.Prelude.{None, Option, Some}
 use mathlib.Core.Path.{◌≡◌, refl}
-use mathlib.Core.Bool.{true}
 use Prim.Native.Nat.{ℕ}
 use Rattle.running_status.specs.RunningStatus.{is_running}
 use Rattle.running_status.specs.StateBytes.{running_bytes, says_running, running_of}

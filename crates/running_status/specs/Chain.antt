@@ -8,10 +8,10 @@ use Rattle.damage.specs.Caller.{belonging}
 use Rattle.running_status.specs.RunningStatus.{Item, OfMessage, OfRealtime, item_bytes, state_behind}
 
 -- "in-range messages", a frame at most as long as the frame limit; real-time messages are all in range
-abbrev pub all_fit : List Item → Bool
-all_fit [] = true
-all_fit (OfMessage m ∷ is) = sendable m && all_fit is
-all_fit (OfRealtime x ∷ is) = all_fit is
+abbrev pub items_fit : List Item → Bool
+items_fit [] = true
+items_fit (OfMessage m ∷ is) = sendable m && items_fit is
+items_fit (OfRealtime x ∷ is) = items_fit is
 
 -- "one message after another, with its state going in and out": from a state on, all that is written
 unfoldable pub chain : Option ℕ → List Item → List ℕ

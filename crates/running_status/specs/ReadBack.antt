@@ -3,14 +3,14 @@ use Rattle.std.specs.Prelude.{◌≡◌, true, List, ℕ, ◌≤◌, length, Non
 use Rattle.decoder.specs.State.{limit}
 use Rattle.damage.specs.Caller.{Caller, Call, CallLog, Made, Exactly, total_used}
 use Rattle.running_status.specs.RunningStatus.{Item}
-use Rattle.running_status.specs.Chain.{all_fit, chain, chain_reports, item_reports, in_order}
+use Rattle.running_status.specs.Chain.{items_fit, chain, chain_reports, item_reports, in_order}
 use Rattle.running_status.specs.Sending.{Sending}
 
 -- "Reading from fresh what was written from the state none gives the same in-range messages": what any list of the writer's calls wrote, refused ones
 -- among them, read by any list of decoder calls, in whatever pieces
 abbrev pub ReadsBack : (c : Caller) → c.State → Type 0
 ReadsBack c start =
-    (is : List Item) (bytes : List ℕ) (last : Option ℕ) → Sending None is bytes last → all_fit is ≡ true
+    (is : List Item) (bytes : List ℕ) (last : Option ℕ) → Sending None is bytes last → items_fit is ≡ true
     → (store : c.Store) → limit ≤ c.size store → (cs : List (Call c)) (log : CallLog) → Made c cs start store bytes log
     → Exactly cs (chain_reports None is) log
 
@@ -18,6 +18,6 @@ ReadsBack c start =
 -- those of these messages, as many bytes were used as the writer writes. The order asks it of lists without real-time messages; it holds with them
 abbrev pub NoShorter : (c : Caller) → c.State → Type 0
 NoShorter c start =
-    (is : List Item) → all_fit is ≡ true
+    (is : List Item) → items_fit is ≡ true
     → (store : c.Store) → limit ≤ c.size store → (any : List ℕ) (cs : List (Call c)) (log : CallLog) → Made c cs start store any log
     → in_order log.reports ≡ item_reports is → length (chain None is) ≤ total_used log.answers

@@ -6,8 +6,9 @@ ghost use Rattle.std.specs.Prelude.{◌≡◌, length, Some};
 ghost use Rattle.wire.specs.ChannelMessage.{status_nibble};
 ghost use Rattle.wire.specs.Channel.{when_channel};
 ghost use Rattle.refusal.specs.Outcome.{answered, gives, with_room, Writes};
-ghost use Rattle.running_status.specs.RunningStatus.{is_running, shortened, state_behind, item_of, message_out, when_frame, frame_out, Emits};
-ghost use Rattle.damage.specs.Sent.{Voice};
+ghost use Rattle.framing.specs.Framing.{body};
+ghost use Rattle.running_status.specs.RunningStatus.{OfMessage, is_running, shortened, state_behind, item_of, message_out, when_frame, frame_out, Emits};
+ghost use Rattle.damage.specs.Sent.{Voice, Frame};
 
 pub mod bytes;
 
@@ -76,7 +77,7 @@ pub fn write(state: Option<u8>, message: Outgoing, out: &mut [u8]) -> Result<Emi
 
 // Writes a frame, which is given as its bytes from F0 to F7. Refuses 20 for the state, then 1, 2, then 19 beyond the frame limit, then 14.
 pub fn write_frame(state: Option<u8>, frame: &[u8], out: &mut [u8]) -> Result<Emitted, Refusal>
-    ensures { Emits (frame_out state frame.now (length out.old)) None result out.old out.new }
+    ensures { Emits (frame_out state frame.now (length out.old)) (state_behind state (OfMessage (Frame (body frame.now)))) result out.old out.new }
 {
     if !is_running(state) {
         return Err(Refusal::BadStore);
