@@ -50,7 +50,7 @@ fn missing(sources: &Sources, document: &str) -> Vec<String> {
     blocks(document).iter().flat_map(|block| sources.missing(block)).collect()
 }
 
-const DOCUMENTS: [&str; 3] = ["docs/PROOFS.md", "docs/ARCHITECTURE.md", "docs/orders/01.md"];
+const DOCUMENTS: [&str; 4] = ["docs/PROOFS.md", "docs/ARCHITECTURE.md", "docs/orders/01.md", "docs/orders/02.md"];
 
 #[test]
 fn every_file_and_every_name_is_there() {

@@ -1,12 +1,11 @@
 // Exports dm_running_fresh, dm_running_channel, dm_running_common, dm_running_realtime and dm_running_frame, the entry points of the writer that leaves
 // out status bytes.
-ghost use Rattle.std.specs.Prelude.{◌≡◌, Some};
+ghost use Rattle.std.specs.Prelude.{◌≡◌};
 ghost use Rattle.wire.specs.ChannelMessage.{channel_kind};
 ghost use Rattle.wire.specs.SystemCommon.{common_status};
 ghost use Rattle.wire.specs.RealTime.{realtime_of};
-ghost use Rattle.running_status.specs.Sending.{framed};
 ghost use Rattle.host_answer.specs.Answer.{Sends};
-ghost use Rattle.host_running_status.specs.Running.{channel_named, common_named, realtime_named, running_fresh, plain_named, HandedSent};
+ghost use Rattle.host_running_status.specs.Running.{channel_named, common_named, realtime_named, running_fresh, plain_named, frame_named, HandedSent};
 
 use host_answer::Answer;
 
@@ -59,7 +58,7 @@ pub extern "C" fn dm_running_realtime(state: &mut [u8], byte: u8, out: &mut [u8]
 // Writes a frame, given as its bytes from F0 to F7. Refuses 20 for the state, then 1, 2, 19, 14.
 #[unsafe(no_mangle)]
 pub extern "C" fn dm_running_frame(state: &mut [u8], frame: &[u8], out: &mut [u8]) -> Answer
-    ensures { HandedSent (Some (framed frame.now)) result state.old state.new out.old out.new }
+    ensures { HandedSent (frame_named frame.now) result state.old state.new out.old out.new }
 {
     host_running_status::dm_running_frame(state, frame, out)
 }

@@ -7,7 +7,7 @@ use Rattle.wire.specs.declared.real_time.Realtime.{Realtime}
 use Rattle.running_status.specs.declared.Outgoing.{Outgoing}
 use Rattle.running_status.specs.declared.Outgoing.TheVariants as o
 use Rattle.running_status.specs.RunningStatus.{state_behind}
-use Rattle.running_status.specs.Sending.{Handed, plain, item_handed, handed_out}
+use Rattle.running_status.specs.Sending.{Handed, plain, framed, item_handed, handed_out}
 use Rattle.running_status.specs.StateBytes.{running_bytes, says_running, running_of}
 use Rattle.host_answer.specs.declared.Answer.{Answer}
 use Rattle.host_answer.specs.Answer.{Sends}
@@ -26,12 +26,16 @@ abbrev pub realtime_named : Option Realtime → Option Outgoing
 realtime_named (Some x) = Some (o.Realtime x)
 realtime_named None = None
 
--- what a call with such numbers is handed
+-- what a call with such numbers hands to the writer
 abbrev pub plain_named : Option Outgoing → Option Handed
 plain_named (Some m) = Some (plain m)
 plain_named None = None
 
--- what the writer does with what a call is handed, a frame's bytes too; 255 where no record names the message
+-- a frame's bytes are handed on as they are
+abbrev pub frame_named : List ℕ → Option Handed
+frame_named bytes = Some (framed bytes)
+
+-- what the writer does with what it is handed; 255 where no record names the message
 abbrev pub host_out : Option ℕ → Option Handed → ℕ → Outcome (List ℕ)
 host_out st (Some x) room = handed_out st x room
 host_out st None room = refused 255 []
