@@ -1,6 +1,7 @@
 /*
  * A host as the box's loop would be: MIDI bytes come in pieces on standard input, each report is printed with the place of its byte and what it
- * says, and what the box would pass on is written again by the engine's writers. The keys that are held at the end are told.
+ * says, and what the box would pass on is written again by the engine's writers, with running status. The keys that are held at the end are told,
+ * and how many bytes running status saved.
  */
 #include "cobnutdrill.h"
 
@@ -14,9 +15,12 @@ struct box {
     uint8_t state[DM_STATE_LEN];
     uint8_t store[DM_MAX_SYSEX_LEN];
     uint8_t keys[DM_HELD_LEN];
-    uint8_t out[DM_MAX_SYSEX_LEN];
-    unsigned long place; /* of the next byte */
-    int wrong;           /* an answer that the header excludes was seen */
+    uint8_t running[DM_RUNNING_LEN]; /* of the cable that the box sends on */
+    uint8_t made[DM_MAX_SYSEX_LEN];  /* a frame, as its writer left it */
+    uint8_t out[DM_MAX_SYSEX_LEN];   /* what is sent on */
+    unsigned long place;             /* of the next byte */
+    unsigned long saved;             /* status bytes that were left out */
+    int wrong;                       /* an answer that the header excludes was seen */
 };
 
 /* The refusals by number, and how many details each has. */
@@ -104,7 +108,7 @@ static void print_device(uint64_t everyone, uint64_t unit)
         printf(" unit %lu", (unsigned long)unit);
 }
 
-/* What a writer left in the box's buffer is what the box sends on. */
+/* What a call of dm_running_* left in the box's buffer is what the box sends on. */
 static void send_on(struct box *box, dm_answer written)
 {
     const uint64_t details[4] = {written.detail0, written.detail1, written.detail2, written.detail3};
@@ -118,28 +122,40 @@ static void send_on(struct box *box, dm_answer written)
     print_bytes(box->out, written.value);
 }
 
+/* Sends on the frame that its writer made. */
+static void send_frame_on(struct box *box, dm_answer made)
+{
+    if (made.number == 0)
+        made = dm_running_frame(box->running, sizeof box->running, box->made, (size_t)made.value, box->out, sizeof box->out);
+    send_on(box, made);
+}
+
 static void on_channel(struct box *box, const dm_fed_answer *fed)
 {
     static const char *const NAMES[] = {"note off", "note on", "key pressure", "control change", "program change", "channel pressure", "bend"};
     const uint8_t nibble = (uint8_t)(fed->status & 0xF0), channel = (uint8_t)(fed->status & 0x0F);
+    const dm_answer written = dm_running_channel(box->running, sizeof box->running, nibble, channel, (uint16_t)fed->first, (uint8_t)fed->second,
+                                                 box->out, sizeof box->out);
     printf("%s, channel %d: %lu", NAMES[(nibble - 0x80) / 16], channel + 1, (unsigned long)fed->first);
     if (nibble < 0xC0)
         printf(" %lu", (unsigned long)fed->second);
     if (dm_held_apply(box->keys, sizeof box->keys, nibble, channel, (uint16_t)fed->first, (uint8_t)fed->second).number != 0)
         box->wrong = 1;
-    send_on(box, dm_channel_write(nibble, channel, (uint16_t)fed->first, (uint8_t)fed->second, box->out, sizeof box->out));
+    if (written.number == 0)
+        box->saved += (unsigned long)(1 + dm_data_len((uint8_t)fed->status).value - written.value);
+    send_on(box, written);
 }
 
 static void on_common(struct box *box, const dm_fed_answer *fed)
 {
     printf("system common %02lx: %lu", (unsigned long)fed->status, (unsigned long)fed->first);
-    send_on(box, dm_common_write((uint8_t)fed->status, (uint16_t)fed->first, box->out, sizeof box->out));
+    send_on(box, dm_running_common(box->running, sizeof box->running, (uint8_t)fed->status, (uint16_t)fed->first, box->out, sizeof box->out));
 }
 
 static void on_realtime(struct box *box, const dm_fed_answer *fed)
 {
     printf("real-time %02lx", (unsigned long)fed->status);
-    send_on(box, dm_realtime_write((uint8_t)fed->status, box->out, sizeof box->out));
+    send_on(box, dm_running_realtime(box->running, sizeof box->running, (uint8_t)fed->status, box->out, sizeof box->out));
 }
 
 /* Identity requests get an answer; replies are told. Gives 0 where the frame is neither. */
@@ -150,7 +166,7 @@ static int on_identity(struct box *box, const uint8_t *frame, size_t length)
     if (asked.number == 0) {
         printf("identity request,");
         print_device(asked.everyone, asked.unit);
-        send_on(box, dm_reply_write(0, (uint8_t)asked.unit, 1, 2, 0, 0, box->out, sizeof box->out));
+        send_frame_on(box, dm_reply_write(0, (uint8_t)asked.unit, 1, 2, 0, 0, box->made, sizeof box->made));
         return 1;
     }
     if (asked.number == DM_INVALID_DEVICE_ID || told.number == DM_INVALID_DEVICE_ID) {
@@ -201,17 +217,17 @@ static void print_head(const dm_read_answer *read)
         print_field("pattern", read->pattern);
 }
 
-/* A frame that is read and written again must be the same bytes. */
+/* A frame that is read, written again and sent on must be the same bytes. */
 static void write_again(struct box *box, const dm_read_answer *read, const uint8_t *frame, size_t length)
 {
     const dm_answer needed = dm_frame_len((uint8_t)read->command, (uint8_t)read->has_pattern, (size_t)read->run_len);
     const dm_answer written = dm_frame_write(
         (uint8_t)read->everyone, (uint8_t)read->unit, (uint8_t)read->command, (uint8_t)read->free, (uint8_t)read->version, (uint8_t)read->bank,
         (uint8_t)read->program, (uint8_t)read->last, (uint8_t)read->pattern, (uint8_t)read->has_pattern, (uint8_t)read->interface,
-        (uint8_t)read->rx, (uint8_t)read->tx, frame + read->run_start, (size_t)read->run_len, box->out, sizeof box->out);
+        (uint8_t)read->rx, (uint8_t)read->tx, frame + read->run_start, (size_t)read->run_len, box->made, sizeof box->made);
+    send_frame_on(box, written);
     if (needed.value != length || written.value != length || memcmp(box->out, frame, length) != 0)
         box->wrong = 1;
-    send_on(box, written);
 }
 
 static void on_frame(struct box *box, const uint8_t *frame, size_t length)
@@ -282,6 +298,7 @@ static void at_the_end(struct box *box)
     }
     if (first.found)
         printf("end: first held key %lu on channel %lu\n", (unsigned long)first.key, (unsigned long)first.channel + 1);
+    printf("end: %lu bytes saved by running status\n", box->saved);
 }
 
 int main(int argc, char **argv)
@@ -296,7 +313,7 @@ int main(int argc, char **argv)
         return 2;
     }
     if (dm_capacity() != DM_MAX_SYSEX_LEN || dm_fresh(box.state, sizeof box.state).number != 0 ||
-        dm_held_fresh(box.keys, sizeof box.keys).number != 0) {
+        dm_held_fresh(box.keys, sizeof box.keys).number != 0 || dm_running_fresh(box.running, sizeof box.running).number != 0) {
         fprintf(stderr, "host: the library does not fit this header\n");
         return 1;
     }
