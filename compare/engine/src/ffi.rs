@@ -19,6 +19,9 @@ pub const NO_RECORD: u64 = 255;
 /// Bytes of a decoder's state.
 pub const STATE_LEN: usize = 14;
 
+/// Bytes of a running-status state.
+pub const RUNNING_LEN: usize = 2;
+
 /// Bytes of a held-key record.
 pub const HELD_LEN: usize = 256;
 
@@ -121,6 +124,11 @@ mod c {
         pub fn dm_channel_write(nibble: u8, channel: u8, a: u16, b: u8, out: *mut u8, out_len: usize) -> Answer;
         pub fn dm_common_write(status: u8, value: u16, out: *mut u8, out_len: usize) -> Answer;
         pub fn dm_realtime_write(byte: u8, out: *mut u8, out_len: usize) -> Answer;
+        pub fn dm_running_fresh(state: *mut u8, state_len: usize) -> Answer;
+        pub fn dm_running_channel(state: *mut u8, state_len: usize, nibble: u8, channel: u8, a: u16, b: u8, out: *mut u8, out_len: usize) -> Answer;
+        pub fn dm_running_common(state: *mut u8, state_len: usize, status: u8, value: u16, out: *mut u8, out_len: usize) -> Answer;
+        pub fn dm_running_realtime(state: *mut u8, state_len: usize, byte: u8, out: *mut u8, out_len: usize) -> Answer;
+        pub fn dm_running_frame(state: *mut u8, state_len: usize, frame: *const u8, frame_len: usize, out: *mut u8, out_len: usize) -> Answer;
         pub fn dm_fresh(state: *mut u8, state_len: usize) -> Answer;
         pub fn dm_reset(state: *mut u8, state_len: usize) -> Answer;
         pub fn dm_in_sysex(state: *const u8, state_len: usize) -> Answer;
@@ -204,6 +212,11 @@ safe! {
     fn channel_write dm_channel_write(nibble: u8, channel: u8, a: u16, b: u8, written out,) -> Answer;
     fn common_write dm_common_write(status: u8, value: u16, written out,) -> Answer;
     fn realtime_write dm_realtime_write(byte: u8, written out,) -> Answer;
+    fn running_fresh dm_running_fresh(written state,) -> Answer;
+    fn running_channel dm_running_channel(written state, nibble: u8, channel: u8, a: u16, b: u8, written out,) -> Answer;
+    fn running_common dm_running_common(written state, status: u8, value: u16, written out,) -> Answer;
+    fn running_realtime dm_running_realtime(written state, byte: u8, written out,) -> Answer;
+    fn running_frame dm_running_frame(written state, lent frame, written out,) -> Answer;
     fn fresh dm_fresh(written state,) -> Answer;
     fn reset dm_reset(written state,) -> Answer;
     fn in_sysex dm_in_sysex(lent state,) -> Answer;
