@@ -7,6 +7,7 @@ mod calls;
 pub mod chart;
 pub mod count;
 mod frames;
+mod messages;
 pub mod page;
 mod sink;
 mod streams;
@@ -68,13 +69,25 @@ pub fn run<const WHOLE: bool>(work: &Workload, side: Side, passes: usize) -> Ran
         (Side::Engine, Call::Unpack) => calls::engine_unpack(work, passes),
         (Side::Engine, Call::Read) => frames::engine_read(work, passes),
         (Side::Engine, Call::Write) => frames::engine_write(work, passes),
+        (Side::Engine, Call::Send) => messages::engine(work, passes),
         (Side::Original, Call::Feed) => streams::original(work, passes),
         (Side::Original, Call::Pack) => calls::original_pack(work, passes),
         (Side::Original, Call::Unpack) => calls::original_unpack(work, passes),
         (Side::Original, Call::Read) => frames::original_read(work, passes),
         (Side::Original, Call::Write) => frames::original_write(work, passes),
+        (Side::Original, Call::Send) => messages::original(work, passes),
         (Side::Memcpy, _) => calls::memcpy(work, passes),
     }
+}
+
+/// The engine's bytes over the original's, where the two write a list of messages each in its own way.
+#[must_use]
+pub fn bytes(work: &Workload) -> Option<f64> {
+    if work.call != Call::Send {
+        return None;
+    }
+    let [engine, original] = [Side::Engine, Side::Original].map(|side| run::<false>(work, side, 1).sink.total());
+    Some(engine as f64 / original as f64)
 }
 
 /// Times so many passes.

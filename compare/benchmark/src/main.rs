@@ -7,13 +7,14 @@ use std::{env, fs};
 
 use benchmark::page::{page, Row};
 use benchmark::time::{times, Effort};
-use benchmark::{chart::chart, count, run, workloads, Side, Workload};
+use benchmark::{bytes, chart::chart, count, run, workloads, Side, Workload};
 
 const USAGE: &str = "usage: benchmark [--quick] [FOLDER]
        benchmark [--quick] --only NAME,NAME...
        benchmark --run SIDE NAME COUNT
   times the engine and the original Rust on the same inputs, which it makes itself, in some minutes, and prints a line a workload:
-  its name, the engine's time over the original's, and the engine's instructions over the original's (- where valgrind is missing)
+  its name, the engine's time over the original's, and the engine's instructions over the original's (- where valgrind is missing);
+  where the two send different bytes, also the engine's bytes over the original's
   FOLDER    a folder, in which it also writes BENCHMARK.md and benchmark.svg
   --quick   few repeats and no instructions: some seconds, and rough times
   --only    these workloads alone, in the table's order
@@ -75,7 +76,8 @@ fn measure(all: &[Workload], effort: Effort, counting: bool, folder: Option<&str
     let mut rows = Vec::new();
     for (work, times) in all.iter().zip(times) {
         let instructions = if counting { Some(count::ratio(&program, work).map_err(|why| format!("benchmark: {why}"))?) } else { None };
-        let row = Row { name: work.name, what: work.what, time: times.ratio(), goal: work.goal, instructions, memcpy: times.limit() };
+        let row =
+            Row { name: work.name, what: work.what, time: times.ratio(), goal: work.goal, instructions, memcpy: times.limit(), bytes: bytes(work) };
         say(&row.line())?;
         rows.push(row);
     }

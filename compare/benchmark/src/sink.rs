@@ -4,8 +4,8 @@ use std::hint::black_box;
 
 use engine::ffi::{Answer, FedAnswer};
 
-/// A checksum of what was read, in order, and a sum of the bytes used with the interrupted frames in its high bits. With WHOLE it reads every byte
-/// of a frame or a buffer; else only how many there are, since the reading would be the most of the time on both sides.
+/// A checksum of what was read, in order, and a sum of the bytes used or sent with the interrupted frames in its high bits. With WHOLE it reads
+/// every byte of a frame or a buffer; else only how many there are, since the reading would be the most of the time on both sides.
 #[derive(Debug, Clone, Copy, PartialEq, Eq)]
 pub struct Sink<const WHOLE: bool> {
     said: u64,
@@ -23,7 +23,7 @@ impl<const WHOLE: bool> Sink<WHOLE> {
         self.said = (self.said.rotate_left(23) ^ word).wrapping_mul(0x9E37_79B9_7F4A_7C15);
     }
 
-    /// Counts bytes that a decoder used.
+    /// Counts bytes that a decoder used, or that were sent.
     #[inline(always)]
     pub(crate) fn used(&mut self, count: u64) {
         self.used = self.used.wrapping_add(count);
@@ -88,6 +88,12 @@ impl<const WHOLE: bool> Sink<WHOLE> {
     pub(crate) fn answer(&mut self, answer: &Answer, out: &[u8]) {
         self.word(answer.value.wrapping_add(refusal(answer.number, answer.details)));
         self.bytes(if WHOLE { &out[..answer.value as usize] } else { out });
+    }
+
+    /// The sum of the bytes used or sent.
+    #[must_use]
+    pub fn total(&self) -> u64 {
+        self.used
     }
 
     /// The checksum, for a line of text.

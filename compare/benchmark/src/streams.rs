@@ -47,7 +47,7 @@ fn feed<const WHOLE: bool>(decoder: &mut Decoder<MAX_SYSEX_LEN>, piece: &[u8], s
 
 /// A report of the original, by the numbers that the engine's have.
 #[inline(always)]
-fn told<const WHOLE: bool>(event: Result<Event<'_>>, sink: &mut Sink<WHOLE>) {
+pub fn told<const WHOLE: bool>(event: Result<Event<'_>>, sink: &mut Sink<WHOLE>) {
     match event {
         Ok(Event::Channel { channel, message }) => {
             let (first, second) = data(message);
@@ -69,7 +69,7 @@ fn told<const WHOLE: bool>(event: Result<Event<'_>>, sink: &mut Sink<WHOLE>) {
 }
 
 #[inline(always)]
-fn data(message: ChannelMessage) -> (u64, u64) {
+pub fn data(message: ChannelMessage) -> (u64, u64) {
     match message {
         ChannelMessage::NoteOff { key, velocity } | ChannelMessage::NoteOn { key, velocity } => (key.into(), velocity.into()),
         ChannelMessage::PolyKeyPressure { key, pressure } => (key.into(), pressure.into()),

@@ -16,6 +16,8 @@ pub enum Call {
     Read,
     /// The frame writer; a piece is the frame that comes of it.
     Write,
+    /// The writers of messages for one cable; a piece is a message's status byte and two data bytes, 0 where it has none.
+    Send,
 }
 
 /// One line of the benchmark.
@@ -41,6 +43,14 @@ pub fn workloads() -> Vec<Workload> {
     let mut all = streams(&mut random);
     all.extend(packing(&mut random));
     all.extend(frames(&mut random));
+    all.push(Workload {
+        name: "running-out",
+        what: "chords, controllers and clocks of a stage, sent a message a call",
+        goal: 1.0,
+        call: Call::Send,
+        bytes: played(&mut Numbers::new()),
+        piece: 3,
+    });
     all
 }
 
@@ -155,6 +165,26 @@ fn controls(random: &mut Numbers) -> Vec<u8> {
         bytes.extend_from_slice(&if count % 2 == 0 { [status, 0xF8, controller, value] } else { [status, controller, 0xF8, value] });
     }
     bytes
+}
+
+/// What a player sends, three bytes a message: chords, let go by velocity 0, with runs of a controller while some are held, now and then a program on
+/// another channel, and clocks between.
+fn played(random: &mut Numbers) -> Vec<u8> {
+    let (mut messages, mut channel) = (Vec::new(), 0);
+    for _ in 0..128 {
+        if random.below(8) == 0 {
+            channel = random.byte() % 16;
+            messages.push([0xC0 + channel, random.data_byte(), 0]);
+        }
+        let (root, keys) = (36 + random.byte() % 48, &[0, 4, 7, 12][..3 + random.below(2)]);
+        messages.extend(keys.iter().map(|key| [0x90 + channel, root + key, 1 + random.byte() % 127]));
+        if random.below(3) == 0 {
+            let controller = *random.one(&[1, 7, 11, 74]);
+            messages.extend((0..4 + random.below(12)).map(|_| [0xB0 + channel, controller, random.data_byte()]));
+        }
+        messages.extend(keys.iter().map(|key| [0x90 + channel, root + key, 0]));
+    }
+    messages.iter().flat_map(|message| if random.below(6) == 0 { [&[0xF8, 0, 0], &message[..]].concat() } else { message.to_vec() }).collect()
 }
 
 /// Frames of a command to any device, each with a prefix and a run of so many data bytes.
