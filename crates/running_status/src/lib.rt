@@ -2,18 +2,18 @@
 // out where it is the running status.
 #![tactic(auto)]
 
-ghost use Rattle.std.specs.Prelude.{◌≡◌, length, Some};
+ghost use Rattle.std.specs.Prelude.{◌≡◌, length};
 ghost use Rattle.wire.specs.ChannelMessage.{status_nibble};
 ghost use Rattle.wire.specs.Channel.{when_channel};
-ghost use Rattle.refusal.specs.Outcome.{answered, gives, with_room, Writes};
+ghost use Rattle.refusal.specs.Outcome.{answered, gives, with_room};
 ghost use Rattle.framing.specs.Framing.{body};
-ghost use Rattle.running_status.specs.RunningStatus.{OfMessage, is_running, shortened, state_behind, item_of, message_out, when_frame, frame_out, Emits};
+ghost use Rattle.running_status.specs.RunningStatus.{OfMessage, is_running, shortened, running_after, state_behind, item_of, message_out, when_frame, frame_out, Emits};
 ghost use Rattle.damage.specs.Sent.{Voice, Frame};
 
 pub mod bytes;
 
 use decoder::MAX_SYSEX_LEN;
-use refusal::Refusal;
+use refusal::{OfByte, Refusal};
 use wire::{Channel, ChannelMessage, CommonStatus, Realtime};
 
 // A message that is no frame: a system common one by its status and its value.
@@ -57,13 +57,7 @@ pub fn write(state: Option<u8>, message: Outgoing, out: &mut [u8]) -> Result<Emi
         return Err(Refusal::BadStore);
     }
     match message {
-        Outgoing::Channel { channel, message } => {
-            let count = put_channel(state, channel, message, out)?;
-            Ok(Emitted {
-                count,
-                state: Some(message.status_nibble() + channel.0),
-            })
-        }
+        Outgoing::Channel { channel, message } => put_channel(state, channel, message, out),
         Outgoing::Common { status, value } => {
             let count = status.encode_into(value, out)?;
             Ok(Emitted { count, state: None })
@@ -93,16 +87,21 @@ fn put_channel(
     channel: Channel,
     message: ChannelMessage,
     out: &mut [u8],
-) -> Result<usize, Refusal>
-    ensures { Writes (when_channel channel.0 (with_room (length out.old) (shortened state (Voice channel message)))) result out.old out.new }
+) -> Result<Emitted, Refusal>
+    ensures { Emits (when_channel channel.0 (with_room (length out.old) (shortened state (Voice channel message)))) (running_after (Voice channel message)) result out.old out.new }
 {
-    let mut bytes = [0; 3];
-    let len = message.encode_into(channel, &mut bytes)?;
-    let left_out = match state {
-        Some(status) if status == bytes[0] => 1,
-        _ => 0,
+    Channel::from_byte(channel.0)?;
+    let status = message.status_nibble() + channel.0;
+    let [first, second] = message.data_bytes();
+    let len = message.encoded_len();
+    let count = match state {
+        Some(running) if running == status => wire::put_short([first, second, 0], len - 1, out)?,
+        _ => wire::put_short([status, first, second], len, out)?,
     };
-    refusal::put(&bytes[left_out..len], out)
+    Ok(Emitted {
+        count,
+        state: Some(status),
+    })
 }
 
 // Refuses what is no frame: 1, 2, then 19 beyond the frame limit.

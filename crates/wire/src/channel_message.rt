@@ -57,7 +57,7 @@ impl ChannelMessage {
 
     // The data bytes that are sent, 0 for what the message lacks: seven bits of each, fourteen of a bend, low seven first.
     // A bend's are cast, since From does not narrow.
-    fn data_bytes(self) -> [u8; 2]
+    pub fn data_bytes(self) -> [u8; 2]
         ensures { result ≡ get_or (data_bytes self) 0 0 ∷ get_or (data_bytes self) 1 0 ∷ [] }
     {
         match self {
@@ -78,7 +78,7 @@ impl ChannelMessage {
         Channel::from_byte(channel.0)?;
         let [first, second] = self.data_bytes();
         let bytes = [self.status_nibble() + channel.0, first, second];
-        refusal::put(&bytes[..self.encoded_len()], out)
+        crate::put_short(bytes, self.encoded_len(), out)
     }
 
     // The message of a status byte and its data; of one-byte messages the second byte is not read.

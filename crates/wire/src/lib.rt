@@ -1,7 +1,8 @@
 // What the MIDI messages on the wire share: channels, how many data bytes a status byte takes, and fourteen bits from two bytes.
 #![tactic(auto)]
 
-ghost use Rattle.std.specs.Prelude.{◌≡◌, ◌+◌, ◌*◌};
+ghost use Rattle.std.specs.Prelude.{◌≡◌, ◌+◌, ◌*◌, ◌≤◌, length, take};
+ghost use Rattle.refusal.specs.Outcome.{with_room, Writes};
 ghost use Rattle.refusal.proofs.Given.{given_number};
 ghost use Rattle.wire.specs.Status.{data_length};
 ghost use Rattle.wire.specs.Channel.{channel_of};
@@ -70,6 +71,25 @@ pub fn data_len(status: u8) -> usize
         0xF3 => 1,
         _ => 0,
     }
+}
+
+// Puts the first one, two or three of three bytes to the front of a buffer, one by one: a call of the library's copy takes longer than so few bytes.
+// Refuses 14.
+pub fn put_short(bytes: [u8; 3], len: usize, out: &mut [u8]) -> Result<usize, Refusal>
+    requires { len ≤ 3 }
+    ensures { Writes (with_room (length out.old) (take len bytes)) result out.old out.new }
+{
+    refusal::room(len, out.len())?;
+    if 1 <= len {
+        out[0] = bytes[0];
+    }
+    if 2 <= len {
+        out[1] = bytes[1];
+    }
+    if 3 <= len {
+        out[2] = bytes[2];
+    }
+    Ok(len)
 }
 
 // Fourteen bits from two data bytes, low seven first.

@@ -49,6 +49,6 @@ impl Realtime {
     pub fn encode_into(self, out: &mut [u8]) -> Result<usize, Refusal>
         ensures { Writes (realtime_write self (length out.old)) result out.old out.new }
     {
-        refusal::put(&[self.to_status()], out)
+        crate::put_short([self.to_status(), 0, 0], 1, out)
     }
 }

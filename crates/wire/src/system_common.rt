@@ -101,6 +101,6 @@ impl CommonStatus {
             (value % 128) as u8,
             (value / 128 % 128) as u8,
         ];
-        refusal::put(&bytes[..self.encoded_len()], out)
+        crate::put_short(bytes, self.encoded_len(), out)
     }
 }
