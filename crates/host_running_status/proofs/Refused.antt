@@ -1,13 +1,13 @@
 -- What the writer refuses, an entry point refuses with the same number and details, and nothing is changed.
 use Rattle.std.specs.Prelude.{Err, None, Option, Some}
-use mathlib.Core.Path.{◌≡◌, refl, subst}
+use mathlib.Core.Path.{◌≡◌, refl}
 use mathlib.Core.Bool.{Bool, true, false}
 use mathlib.Core.List.{List, []}
 use Prim.Native.Nat.{ℕ}
+use Rattle.laws.specs.Choice.{pick}
 use Rattle.refusal.specs.declared.Refusal.{Refusal}
 use Rattle.refusal.specs.Refusal.{number_of, values_of}
 use Rattle.refusal.specs.Outcome.{Outcome, gives, refused, refusal, unless}
-use Rattle.laws.specs.Choice.{pick}
 use Rattle.refusal.proofs.Given.{given_not_refused}
 use Rattle.running_status.specs.RunningStatus.{Emits}
 use Rattle.running_status.specs.StateBytes.{says_running, running_of}
@@ -23,17 +23,16 @@ refused_sent (refused n vs) next e r state out later w is =
     let values : values_of e ≡ vs = cc in
     record { sends = record { answers = rw (number, values) at is; leaves = w.leaves }; keeps = refl }
 
--- the same of a call on the bytes that say the state
-pub refused_call : (state bytes : List ℕ) (running : Option ℕ) (o : Option ℕ → Outcome (List ℕ)) (next : Option ℕ → Option ℕ) (e : Refusal) (r : Answer)
-    (out later : List ℕ) → bytes ≡ state → pick (says_running bytes) (Some (running_of bytes)) None ≡ Some running
+-- a call on bytes that say a state
+pub refused_call : (state : List ℕ) (running : Option ℕ) (o : Option ℕ → Outcome (List ℕ)) (next : Option ℕ → Option ℕ) (e : Refusal) (r : Answer)
+    (out later : List ℕ) → pick (says_running state) (Some (running_of state)) None ≡ Some running
     → Emits (o running) (next running) (Err e) out later → r ≡ answer_of (refusal e)
-    → RunningSent (unless (says_running state) 20 [] (o (running_of state))) (next (running_of state)) r state bytes out later
-refused_call state bytes running o next e r out later same said w is =
-    subst (λ (b : List ℕ). RunningSent (unless (says_running b) 20 [] (o (running_of b))) (next (running_of b)) r b bytes out later) same (go (says_running bytes) refl said)
+    → RunningSent (unless (says_running state) 20 [] (o (running_of state))) (next (running_of state)) r state state out later
+refused_call state running o next e r out later said w is = go (says_running state) refl said
   where
-    go : (t : Bool) → says_running bytes ≡ t → pick t (Some (running_of bytes)) None ≡ Some running
-        → RunningSent (unless (says_running bytes) 20 [] (o (running_of bytes))) (next (running_of bytes)) r bytes bytes out later
+    go : (t : Bool) → says_running state ≡ t → pick t (Some (running_of state)) None ≡ Some running
+        → RunningSent (unless (says_running state) 20 [] (o (running_of state))) (next (running_of state)) r state state out later
     go true h k =
-        let is_so : running_of bytes ≡ running = cc in
-        rw (h, is_so) (refused_sent (o running) (next running) e r bytes out later w is)
+        let is_so : running_of state ≡ running = cc in
+        rw (h, is_so) (refused_sent (o running) (next running) e r state out later w is)
     go false h k = cc

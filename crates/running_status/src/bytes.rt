@@ -1,28 +1,28 @@
 // The writer's state as RUNNING_LEN bytes that a host keeps: 00 00 for none, else 01 and the status byte.
-ghost use Rattle.std.specs.Prelude.{◌≡◌, None, Some};
+ghost use Rattle.std.specs.Prelude.{◌≡◌, None, Some, length};
 ghost use Rattle.laws.specs.Choice.{pick};
 ghost use Rattle.running_status.specs.StateBytes.{running_bytes, says_running, running_of};
 
 pub const RUNNING_LEN: usize = 2;
 
-// The state that the bytes say; none for bytes that are no state's.
-pub fn running_of(bytes: &[u8; RUNNING_LEN]) -> Option<Option<u8>>
+// The state that the bytes say; none for bytes that are no state's, and for another length.
+pub fn running_of(bytes: &[u8]) -> Option<Option<u8>>
     ensures { result ≡ pick (says_running bytes.now) (Some (running_of bytes.now)) None }
 {
-    let [flag, status] = *bytes;
-    match (flag, status) {
-        (0, 0) => Some(None),
-        (1, 0x80..0xF0) => Some(Some(status)),
+    match bytes.as_array::<RUNNING_LEN>() {
+        Some([0, 0]) => Some(None),
+        Some([1, status]) if crate::is_running(Some(*status)) => Some(Some(*status)),
         _ => None,
     }
 }
 
 // Writes a state's bytes.
-pub fn put_running(state: Option<u8>, bytes: &mut [u8; RUNNING_LEN])
+pub fn put_running(state: Option<u8>, bytes: &mut [u8])
+    requires { length bytes.old ≡ 2 }
     ensures { bytes.new ≡ running_bytes state }
 {
-    *bytes = match state {
+    bytes.copy_from_slice(&match state {
         None => [0, 0],
         Some(status) => [1, status],
-    };
+    });
 }

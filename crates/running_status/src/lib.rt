@@ -8,7 +8,9 @@ ghost use Rattle.wire.specs.Channel.{when_channel};
 ghost use Rattle.refusal.specs.Outcome.{answered, gives, with_room};
 ghost use Rattle.framing.specs.Framing.{body};
 ghost use Rattle.running_status.specs.RunningStatus.{OfMessage, is_running, shortened, running_after, state_behind, item_of, message_out, when_frame, frame_out, Emits};
-ghost use Rattle.damage.specs.Sent.{Voice, Frame};
+ghost use Rattle.damage.specs.Sent.{Voice, Common, Frame};
+ghost use Rattle.wire.specs.SystemCommon.{common};
+ghost use Rattle.running_status.specs.declared.Outgoing.TheVariants as o;
 
 pub mod bytes;
 
@@ -53,43 +55,25 @@ pub fn is_running(state: Option<u8>) -> bool
 pub fn write(state: Option<u8>, message: Outgoing, out: &mut [u8]) -> Result<Emitted, Refusal>
     ensures { Emits (message_out state message (length out.old)) (state_behind state (item_of message)) result out.old out.new }
 {
-    if !is_running(state) {
-        return Err(Refusal::BadStore);
-    }
     match message {
-        Outgoing::Channel { channel, message } => put_channel(state, channel, message, out),
-        Outgoing::Common { status, value } => {
-            let count = status.encode_into(value, out)?;
-            Ok(Emitted { count, state: None })
-        }
-        Outgoing::Realtime(message) => {
-            let count = message.encode_into(out)?;
-            Ok(Emitted { count, state })
-        }
+        Outgoing::Channel { channel, message } => write_channel(state, channel, message, out),
+        Outgoing::Common { status, value } => write_common(state, status, value, out),
+        Outgoing::Realtime(message) => write_realtime(state, message, out),
     }
 }
 
-// Writes a frame, which is given as its bytes from F0 to F7. Refuses 20 for the state, then 1, 2, then 19 beyond the frame limit, then 14.
-pub fn write_frame(state: Option<u8>, frame: &[u8], out: &mut [u8]) -> Result<Emitted, Refusal>
-    ensures { Emits (frame_out state frame.now (length out.old)) (state_behind state (OfMessage (Frame (body frame.now)))) result out.old out.new }
-{
-    if !is_running(state) {
-        return Err(Refusal::BadStore);
-    }
-    check_frame(frame)?;
-    let count = refusal::put(frame, out)?;
-    Ok(Emitted { count, state: None })
-}
-
-// Writes a channel message, without its status byte where that is the running status. Refuses 17, then 14.
-fn put_channel(
+// Writes a channel message, without its status byte where that is the running status. Refuses 20 for the state, then 17, then 14.
+pub fn write_channel(
     state: Option<u8>,
     channel: Channel,
     message: ChannelMessage,
     out: &mut [u8],
 ) -> Result<Emitted, Refusal>
-    ensures { Emits (when_channel channel.0 (with_room (length out.old) (shortened state (Voice channel message)))) (running_after (Voice channel message)) result out.old out.new }
+    ensures { Emits (message_out state (o.Channel channel message) (length out.old)) (running_after (Voice channel message)) result out.old out.new }
 {
+    if !is_running(state) {
+        return Err(Refusal::BadStore);
+    }
     Channel::from_byte(channel.0)?;
     let status = message.status_nibble() + channel.0;
     let [first, second] = message.data_bytes();
@@ -102,6 +86,49 @@ fn put_channel(
         count,
         state: Some(status),
     })
+}
+
+// Writes a system common message, which clears the running status. Refuses 20 for the state, then 21, then 14.
+pub fn write_common(
+    state: Option<u8>,
+    status: CommonStatus,
+    value: u16,
+    out: &mut [u8],
+) -> Result<Emitted, Refusal>
+    ensures { Emits (message_out state (o.Common status value) (length out.old)) (running_after (Common (common status value))) result out.old out.new }
+{
+    if !is_running(state) {
+        return Err(Refusal::BadStore);
+    }
+    let count = status.encode_into(value, out)?;
+    Ok(Emitted { count, state: None })
+}
+
+// Writes a real-time message, which leaves the running status. Refuses 20 for the state, then 14.
+pub fn write_realtime(
+    state: Option<u8>,
+    message: Realtime,
+    out: &mut [u8],
+) -> Result<Emitted, Refusal>
+    ensures { Emits (message_out state (o.Realtime message) (length out.old)) state result out.old out.new }
+{
+    if !is_running(state) {
+        return Err(Refusal::BadStore);
+    }
+    let count = message.encode_into(out)?;
+    Ok(Emitted { count, state })
+}
+
+// Writes a frame, which is given as its bytes from F0 to F7. Refuses 20 for the state, then 1, 2, then 19 beyond the frame limit, then 14.
+pub fn write_frame(state: Option<u8>, frame: &[u8], out: &mut [u8]) -> Result<Emitted, Refusal>
+    ensures { Emits (frame_out state frame.now (length out.old)) (state_behind state (OfMessage (Frame (body frame.now)))) result out.old out.new }
+{
+    if !is_running(state) {
+        return Err(Refusal::BadStore);
+    }
+    check_frame(frame)?;
+    let count = refusal::put(frame, out)?;
+    Ok(Emitted { count, state: None })
 }
 
 // Refuses what is no frame: 1, 2, then 19 beyond the frame limit.

@@ -8,6 +8,5 @@ use Rattle.host_running_status.proofs.dm_running_frame.Goals as goal
 pub returns-in-Err : goal.returns-in-Err
 returns-in-Err c =
     let x : Handed = framed c.args.frame.now in
-    refused_call c.args.state.now c.in-Some.bytes.now c.in-Some-running_of.running (λ (st : Option ℕ). handed_out st x (length c.args.out.now))
-    (λ (st : Option ℕ). state_behind st (item_handed x)) c.in-Err.e c.from-in-Err.result c.args.out.now c.write_frame.new.out c.in-Some.ensures.cases.same
-    (sym c.running_of.ensures ∙ c.in-Some-running_of.is) c.in-Err.ensures c.from-in-Err.ensures
+    refused_call c.args.state.now c.in-Some.running (λ (st : Option ℕ). handed_out st x (length c.args.out.now)) (λ (st : Option ℕ). state_behind st (item_handed x))
+    c.in-Err.e c.from-in-Err.result c.args.out.now c.write_frame.new.out (sym c.running_of.ensures ∙ c.in-Some.is) c.in-Err.ensures c.from-in-Err.ensures
