@@ -3,7 +3,7 @@
 use words::{Answer, Bench, Report, Request};
 
 use crate::ffi::{self, NO_RECORD};
-use crate::{records, stream};
+use crate::{records, running, stream};
 
 /// The engine, with the store that it lends to each fresh decoder. What the store holds makes no difference to a report.
 pub struct Engine {
@@ -45,6 +45,7 @@ impl Bench for Engine {
             Request::Chan { nibble, channel, a, b, .. } => plain(ffi::channel_write(*nibble, *channel, *a, *b, out)),
             Request::Common { status, value, .. } => plain(ffi::common_write(*status, *value, out)),
             Request::RtWrite { byte, .. } => plain(ffi::realtime_write(*byte, out)),
+            Request::RunningWrite { state, message, .. } => running::word(*state, message, out),
             Request::Feed(bytes) => words::decoded(self, None, bytes),
             Request::Chunks { sizes, bytes } => words::decoded(self, Some(sizes), bytes),
             Request::Call { state, store, bytes } => stream::call(*state, store, bytes),

@@ -3,4 +3,5 @@
 pub mod bench;
 pub mod ffi;
 mod records;
+pub mod running;
 mod stream;

@@ -45,9 +45,12 @@ impl<const N: usize> Bench for Origin<N> {
                 None => Answer::Skip,
             },
             Request::WriteReply { device, major, minor, voice, .. } => write_reply(*device, *major, *minor, *voice, out),
-            Request::Common { .. } | Request::RtWrite { .. } | Request::Call { .. } | Request::Reset(_) | Request::Held(_) => {
-                Answer::What("the original has no such call".to_string())
-            }
+            Request::Common { .. }
+            | Request::RtWrite { .. }
+            | Request::RunningWrite { .. }
+            | Request::Call { .. }
+            | Request::Reset(_)
+            | Request::Held(_) => Answer::What("the original has no such call".to_string()),
         }
     }
 

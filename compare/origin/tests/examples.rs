@@ -21,7 +21,7 @@ fn another_limit_is_seen() {
 
 #[test]
 fn added_calls_are_not_made_up() {
-    for request in ["common 241 5 0000", "rtw 248 00", "call 0,0,-,0,0,0 00 -", "reset 0,0,-,0,0,0", "held 144,0,1,1"] {
+    for request in ["common 241 5 0000", "rtw 248 00", "rsw - 00 rt 248", "call 0,0,-,0,0,0 00 -", "reset 0,0,-,0,0,0", "held 144,0,1,1"] {
         assert_eq!(words::line(&mut Origin::<2354>, request), "? the original has no such call", "{request}");
     }
 }

@@ -18,7 +18,7 @@ pub fn examples() -> Vec<(&'static str, &'static str)> {
 #[must_use]
 pub fn of_original(request: &str, answer: &str) -> String {
     let word = request.split(' ').next().unwrap_or_default();
-    if matches!(word, "common" | "rtw" | "call" | "reset" | "held") {
+    if matches!(word, "common" | "rtw" | "rsw" | "call" | "reset" | "held") {
         return "? the original has no such call".to_string();
     }
     if may_skip(word) && refused_by_hand(answer) {

@@ -4,11 +4,13 @@
 
 mod bytes;
 pub mod examples;
+mod message;
 mod report;
 mod request;
 mod show;
 
 pub use bytes::{hex, parse_bytes, short_hex};
+pub use message::Message;
 pub use report::{pieces, Report};
 pub use request::{parse, Device, Head, Request, State};
 

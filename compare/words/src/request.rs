@@ -1,6 +1,7 @@
 //! A line taken apart.
 
 use crate::bytes::parse_bytes;
+use crate::message::Message;
 
 /// Whom a frame is for. A unit may be made by hand, above 15.
 #[derive(Debug, Clone, Copy, PartialEq, Eq)]
@@ -80,6 +81,7 @@ pub enum Request {
     Chan { nibble: u8, channel: u8, a: u16, b: u8, out: Vec<u8> },
     Common { status: u8, value: u16, out: Vec<u8> },
     RtWrite { byte: u8, out: Vec<u8> },
+    RunningWrite { state: Option<u8>, out: Vec<u8>, message: Message },
     Feed(Vec<u8>),
     Chunks { sizes: Vec<usize>, bytes: Vec<u8> },
     Call { state: State, store: Vec<u8>, bytes: Vec<u8> },
@@ -104,6 +106,7 @@ impl Request {
             | Self::Chan { out, .. }
             | Self::Common { out, .. }
             | Self::RtWrite { out, .. }
+            | Self::RunningWrite { out, .. }
             | Self::FrameWrite { out, .. }
             | Self::WriteRequest { out, .. }
             | Self::WriteReply { out, .. } => Some(out),
@@ -120,6 +123,7 @@ impl Request {
             | Self::Chunks { bytes, .. }
             | Self::Call { bytes, .. }
             | Self::Frame(bytes)
+            | Self::RunningWrite { message: Message::Frame(bytes), .. }
             | Self::InquiryRequest(bytes)
             | Self::InquiryReply(bytes) => Some(bytes),
             Self::FrameWrite { head, .. } | Self::ReadBack(head) => Some(&mut head.run),
@@ -193,6 +197,36 @@ impl<'a> Words<'a> {
         })
     }
 
+    /// The first number of a channel message.
+    fn first(&mut self, nibble: u8) -> Result<u16, String> {
+        if nibble == 224 {
+            self.number("A")
+        } else {
+            self.number::<u8>("A").map(u16::from)
+        }
+    }
+
+    fn running(&mut self) -> Result<Option<u8>, String> {
+        match self.next("STATE")? {
+            "-" => Ok(None),
+            status => number(status, "STATE").map(Some),
+        }
+    }
+
+    /// A message of any kind: the call says whether a record names it.
+    fn message(&mut self) -> Result<Message, String> {
+        match self.next("MESSAGE")? {
+            "ch" => {
+                let nibble = self.number("NIBBLE")?;
+                Ok(Message::Channel { nibble, channel: self.number("CH")?, a: self.first(nibble)?, b: self.number("B")? })
+            }
+            "common" => Ok(Message::Common { status: self.number("STATUS")?, value: self.number("VALUE")? }),
+            "rt" => Ok(Message::Realtime(self.number("BYTE")?)),
+            "frame" => Ok(Message::Frame(self.bytes("BYTES")?)),
+            _ => Err("MESSAGE begins with ch, common, rt or frame".to_string()),
+        }
+    }
+
     fn messages(&mut self) -> Result<Vec<[u16; 4]>, String> {
         let mut messages = Vec::new();
         for word in self.rest.by_ref() {
@@ -259,6 +293,7 @@ pub fn parse(line: &str) -> Result<Request, String> {
         "chan" => chan(&mut words)?,
         "common" => common(&mut words)?,
         "rtw" => realtime(&mut words)?,
+        "rsw" => Request::RunningWrite { state: words.running()?, out: words.bytes("OUT")?, message: words.message()? },
         "feed" => Request::Feed(words.bytes("BYTES")?),
         "chunks" => Request::Chunks { sizes: sizes(words.next("SIZES")?)?, bytes: words.bytes("BYTES")? },
         "call" => Request::Call { state: words.state()?, store: words.bytes("STORE")?, bytes: words.bytes("BYTES")? },
@@ -289,8 +324,7 @@ fn chan(words: &mut Words<'_>) -> Result<Request, String> {
     let nibble: u8 = words.number("NIBBLE")?;
     known_nibble(nibble)?;
     let channel = words.number("CHANNEL")?;
-    let a = if nibble == 224 { words.number::<u16>("A")? } else { u16::from(words.number::<u8>("A")?) };
-    Ok(Request::Chan { nibble, channel, a, b: words.number("B")?, out: words.bytes("OUT")? })
+    Ok(Request::Chan { nibble, channel, a: words.first(nibble)?, b: words.number("B")?, out: words.bytes("OUT")? })
 }
 
 fn common(words: &mut Words<'_>) -> Result<Request, String> {

@@ -28,6 +28,7 @@ impl Request {
             Self::Chan { .. } => "chan",
             Self::Common { .. } => "common",
             Self::RtWrite { .. } => "rtw",
+            Self::RunningWrite { .. } => "rsw",
             Self::Feed(_) => "feed",
             Self::Chunks { .. } => "chunks",
             Self::Call { .. } => "call",
@@ -88,6 +89,10 @@ impl fmt::Display for Request {
             Self::Chan { nibble, channel, a, b, .. } => write!(f, " {nibble} {channel} {a} {b}"),
             Self::Common { status, value, .. } => write!(f, " {status} {value}"),
             Self::RtWrite { byte, .. } => write!(f, " {byte}"),
+            Self::RunningWrite { state, out, message } => {
+                let state = state.map_or_else(|| "-".to_string(), |status| status.to_string());
+                return write!(f, " {state} {} {message}", short_hex(out));
+            }
             Self::Feed(bytes) | Self::Frame(bytes) | Self::InquiryRequest(bytes) | Self::InquiryReply(bytes) => write!(f, " {}", short_hex(bytes)),
             Self::Chunks { sizes, bytes } => {
                 let sizes: Vec<String> = sizes.iter().map(usize::to_string).collect();

@@ -29,6 +29,15 @@ fn no_requests() {
         "chan 224 0 65536 2 00",
         "common 244 0 00",
         "rtw 249 00",
+        "rsw 256 00 rt 248",
+        "rsw - 00",
+        "rsw - 00 rt",
+        "rsw - 00 rt 256",
+        "rsw - 00 rt 248 00",
+        "rsw - 00 ch 144 0 256 2",
+        "rsw - 00 ch 144 0 1",
+        "rsw - 00 common 242 65536",
+        "rsw - 00 tune",
         "call 2,0,-,0,0,0 - -",
         "call 0,0,- - -",
         "chunks 0,0 90",
@@ -46,7 +55,7 @@ fn no_requests() {
 }
 
 /// A request or two of each word.
-const REQUESTS: [&str; 31] = [
+const REQUESTS: [&str; 36] = [
     "bank 9",
     "program 1",
     "pattern 2",
@@ -65,6 +74,11 @@ const REQUESTS: [&str; 31] = [
     "chan 224 3 8192 0 000000",
     "common 242 9 -",
     "rtw 248 00",
+    "rsw - 000000 ch 224 3 8192 0",
+    "rsw 144 55.00*9 ch 145 16 0 200",
+    "rsw 240 - common 244 65535",
+    "rsw 0 00 rt 249",
+    "rsw 255 - frame f0.01*9.f7",
     "feed f0.01*9.f7",
     "chunks 4,7,5 903c40",
     "call 0,0,144,1,60,9 00*2354 40f8",
