@@ -1,5 +1,6 @@
 //! The engine and the original, asked the same.
 
+mod chains;
 mod frames;
 mod identity;
 mod numbers;
@@ -9,6 +10,7 @@ mod streams;
 mod tally;
 mod writes;
 
+pub use chains::{Writer, Written};
 pub use tally::{Difference, Tally};
 
 /// How much is asked.
@@ -40,4 +42,5 @@ pub fn ask(tally: &mut Tally, size: Size) {
     frames::ask(tally, &mut random, size);
     writes::ask(tally, &mut random, size);
     identity::ask(tally, &mut random, size);
+    chains::ask(tally, &mut random, size);
 }

@@ -1,7 +1,7 @@
 //! Feeds the engine and the original the same requests, in one process, and compares their answers.
 //!
-//! It prints how many requests of each word were compared and how many hand-made records were passed over, and each difference as the shortest
-//! request found that shows it. It ends with status 1 where there is one.
+//! It prints how many requests of each word were compared and how many hand-made records were passed over, how many bytes the chains of messages
+//! took, and each difference as the shortest request found that shows it. It ends with status 1 where there is one.
 
 use std::process::ExitCode;
 
@@ -38,6 +38,9 @@ fn say(tally: &Tally) -> ExitCode {
             None => println!("{word}: {count} answered alike"),
         }
     }
+    let written = tally.written();
+    let saved = written.plain - written.shortened;
+    println!("chains: {} messages, {} bytes for the original's {}, {saved} saved", written.messages, written.shortened, written.plain);
     let alike: u64 = tally.alike().values().sum();
     let passed: u64 = tally.passed_over().values().sum();
     let different: u64 = tally.differences().values().map(|found| found.seen).sum();

@@ -6,6 +6,8 @@ use engine::bench::Engine;
 use words::examples::{by_hand, may_skip};
 use words::{Answer, Bench, Request};
 
+use crate::chains::{Writer, Written};
+
 /// A request that the two answer differently.
 #[derive(Debug, Clone)]
 pub struct Difference {
@@ -15,7 +17,7 @@ pub struct Difference {
     /// How many requests of the word differed.
     pub seen: u64,
     /// The fewer bytes, and then the shorter line, the shorter the request.
-    measure: (usize, usize),
+    pub(crate) measure: (usize, usize),
 }
 
 /// Differences of a word that are made shorter though a shorter one is known.
@@ -36,11 +38,13 @@ enum Verdict {
 
 /// Both benches, and what was found.
 pub struct Tally {
-    engine: Engine,
-    original: Box<dyn Bench>,
-    alike: BTreeMap<&'static str, u64>,
+    pub(crate) engine: Engine,
+    pub(crate) original: Box<dyn Bench>,
+    pub(crate) writer: Writer,
+    pub(crate) alike: BTreeMap<&'static str, u64>,
+    pub(crate) written: Written,
     passed_over: BTreeMap<&'static str, u64>,
-    differences: BTreeMap<&'static str, Difference>,
+    pub(crate) differences: BTreeMap<&'static str, Difference>,
     ours: Vec<u8>,
     theirs: Vec<u8>,
 }
@@ -51,12 +55,20 @@ impl Tally {
         Self {
             engine: Engine::new(),
             original,
+            writer: engine::running::write,
             alike: BTreeMap::new(),
+            written: Written::default(),
             passed_over: BTreeMap::new(),
             differences: BTreeMap::new(),
             ours: Vec::new(),
             theirs: Vec::new(),
         }
+    }
+
+    /// Another writer of chains than the engine's.
+    #[must_use]
+    pub fn with_writer(self, writer: Writer) -> Self {
+        Self { writer, ..self }
     }
 
     /// Asks both, and counts.
@@ -98,6 +110,12 @@ impl Tally {
     #[must_use]
     pub fn alike(&self) -> &BTreeMap<&'static str, u64> {
         &self.alike
+    }
+
+    /// How much was written of the chains that were read alike.
+    #[must_use]
+    pub fn written(&self) -> Written {
+        self.written
     }
 
     /// How many hand-made records of each word were passed over.
@@ -167,7 +185,7 @@ impl Tally {
         self.keep(word, Difference { request: request.to_string(), original, engine, seen: 1, measure: measure(&request) });
     }
 
-    fn keep(&mut self, word: &'static str, found: Difference) {
+    pub(crate) fn keep(&mut self, word: &'static str, found: Difference) {
         match self.differences.get_mut(word) {
             Some(known) if known.measure <= found.measure => {}
             Some(known) => *known = Difference { seen: known.seen, ..found },
