@@ -118,7 +118,7 @@ pub fn engine(sources: &[(String, String)]) -> Side {
             "another form of export in {name}"
         );
         records(&text, "#[repr(C)]", &mut side);
-        let crosses_to_c = name.starts_with("host") || name == "stream" || name == "held_keys::bytes";
+        let crosses_to_c = name.starts_with("host") || matches!(name.as_str(), "stream" | "held_keys::bytes" | "running_status::bytes");
         for (constant, value) in constants(&text) {
             let into = if crosses_to_c { &mut side.constants } else { &mut side.others };
             if into.insert(constant.clone(), value).is_some_and(|before| before != value) {
