@@ -3,11 +3,10 @@ use Rattle.std.specs.Prelude.{None}
 use mathlib.Core.Path.{◌≡◌, refl, sym, ◌∙◌, ap, subst}
 use mathlib.Core.Bool.{true}
 use mathlib.Core.List.{List, [], ◌∷◌, ◌++◌, append_assoc}
-use Prim.Native.Nat.{ℕ, ◌-◌, ◌<◌}
+use Prim.Native.Nat.{ℕ, ◌<◌}
 use native.Mathlib.Omega.{arith}
 use lib.Dec.{leb, ltb}
-use lib.ListN.{length, length-append}
-use lib.Seq.{take_at}
+use lib.ListN.{length}
 use borrow.Author.Tests.{lt-ltb, ltb-true}
 use Rattle.refusal.specs.Outcome.{gives}
 use Rattle.refusal.proofs.Given.{passed, passed_on, given_first}
@@ -18,15 +17,11 @@ use Rattle.command.specs.declared.Command.{Command}
 use Rattle.command.specs.Command.{code_of}
 use Rattle.command.proofs.Table.{of_every}
 use Rattle.framing.specs.Framing.{body, first_high}
-use Rattle.framing.proofs.Bytes.{no_high}
+use Rattle.framing.proofs.Bytes.{body_is, no_high}
 use Rattle.message.specs.declared.head.FrameHead.{FrameHead}
 use Rattle.message.specs.Head.{command_of_head, fields_of}
 use Rattle.message.specs.Prefix.{prefix_of, checked_fields}
 use Rattle.frame_writer.specs.Writer.{row, own_run, length_for, seven_bit_write, room_write, fields_write, frame_write}
-
--- a body between its ends
-body_is : (xs : List ℕ) → body (0xF0 ∷ xs ++ (0xF7 ∷ [])) ≡ xs
-body_is xs = take_at xs (0xF7 ∷ []) (length (0xF0 ∷ xs ++ (0xF7 ∷ [])) - 2) (omega (arith, length-append xs (0xF7 ∷ [])))
 
 -- a device in range and a code are below 80
 pub device_low : (x : DeviceId) → device_in_range x ≡ true → device_byte x < 0x80

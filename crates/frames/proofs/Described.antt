@@ -4,11 +4,11 @@
 use mathlib.Core.Path.{◌≡◌, refl, ap, ap₂, sym, subst, ◌∙◌}
 use mathlib.Core.Bool.{Bool, true, false, ◌&&◌}
 use mathlib.Core.List.{List, [], ◌∷◌, ◌++◌, append_assoc}
-use Prim.Native.Nat.{ℕ, ◌+◌, ◌-◌, ◌≤◌, ◌<◌}
+use Prim.Native.Nat.{ℕ, ◌+◌, ◌-◌, ◌<◌}
 use native.Mathlib.Omega.{arith}
 use lib.ListN.{length, get_or, take, drop, length-append, length-drop, get_or-append}
-use lib.Seq.{take_at, drop_at, get_or_at, get_or-take}
-use borrow.Author.Tests.{eq-eqb, eqb-true, le-leb}
+use lib.Seq.{take_at, drop_at, get_or-take}
+use borrow.Author.Tests.{eq-eqb, eqb-true}
 use Rattle.laws.specs.Choice.{pick, flag}
 use Rattle.laws.proofs.Tests.{split}
 use Rattle.refusal.specs.Outcome.{Outcome, gives}
@@ -20,6 +20,7 @@ use Rattle.command.specs.Command.{code_of}
 use Rattle.command.specs.Payload as y
 use Rattle.command.specs.Payload.{Field, payload_of, carries_run}
 use Rattle.command.proofs.Table.{code_reads_back}
+use Rattle.framing.proofs.Bytes.{ends_framed}
 use Rattle.framing.specs.Framing.{framed, first_high}
 use Rattle.message.specs.declared.fields.Fields.{Fields}
 use Rattle.message.specs.Prefix.{optional, field_list, fields_in, fields_at, all_fit}
@@ -144,12 +145,8 @@ payload_is device code prefix run =
 
 row_ends : (device code : ℕ) (prefix run : List ℕ) → framed (row device code prefix run) ≡ true
 row_ends device code prefix run =
-    let xs : List ℕ = 0xF0 ∷ 0x00 ∷ 0x20 ∷ 0x32 ∷ 0x20 ∷ device ∷ code ∷ (prefix ++ run) in
-    let same : row device code prefix run ≡ xs ++ (0xF7 ∷ []) =
-    ap (λ (l : List ℕ). 0xF0 ∷ 0x00 ∷ 0x20 ∷ 0x32 ∷ 0x20 ∷ device ∷ code ∷ l) (sym (append_assoc prefix run (0xF7 ∷ []))) in
-    let size : length xs ≡ length (xs ++ (0xF7 ∷ [])) - 1 = omega (arith, length-append xs (0xF7 ∷ [])) in
-    let long : 2 ≤ length (xs ++ (0xF7 ∷ [])) = omega (arith, length-append xs (0xF7 ∷ [])) in
-    ap framed same ∙ rw (le-leb 2 (length (xs ++ (0xF7 ∷ []))) long, get_or_at xs 0xF7 [] 0 (length (xs ++ (0xF7 ∷ [])) - 1) size)
+    let xs : List ℕ = 0x00 ∷ 0x20 ∷ 0x32 ∷ 0x20 ∷ device ∷ code ∷ (prefix ++ run) in
+    ap (λ (l : List ℕ). framed (0xF0 ∷ 0x00 ∷ 0x20 ∷ 0x32 ∷ 0x20 ∷ device ∷ code ∷ l)) (sym (append_assoc prefix run (0xF7 ∷ []))) ∙ ends_framed xs
 
 module _ (bytes : List ℕ) (r : Record) (run : List ℕ) (d : Described bytes r run) where
   prefix_long : length (prefix_in r) ≡ length (field_list r.command r.fields.has_pattern)

@@ -6,9 +6,9 @@ use mathlib.Core.List.{List, [], ◌∷◌, ◌++◌}
 use Prim.Native.Nat.{ℕ, suc, ◌-◌, ◌≤◌, ◌<◌}
 use native.Mathlib.Omega.{arith}
 use lib.Dec.{ltb, leb, eqb}
-use lib.ListN.{length, get_or, take}
-use lib.Seq.{ext_get_or, take-suc, take_all}
-use borrow.Author.Tests.{lt-ltb, le-ltb, leb-true, eqb-true}
+use lib.ListN.{length, get_or, take, length-append}
+use lib.Seq.{ext_get_or, get_or_at, take-suc, take_all, take_at}
+use borrow.Author.Tests.{lt-ltb, le-ltb, le-leb, leb-true, eqb-true}
 use Rattle.laws.specs.Choice.{pick}
 use Rattle.laws.specs.Tabulate.{tab}
 use Rattle.laws.proofs.Tabulate.{length_tab, get_or_tab}
@@ -82,7 +82,18 @@ ends_with l n e =
     let last : n < length l = omega arith in
     sym (take_all (suc n) l all) ∙ take-suc l n 0 last
 
--- framed bytes are F0, a body and F7
+-- F0, a body and F7 are framed, with that body
+pub body_is : (xs : List ℕ) → body (0xF0 ∷ xs ++ (0xF7 ∷ [])) ≡ xs
+body_is xs = take_at xs (0xF7 ∷ []) (length (0xF0 ∷ xs ++ (0xF7 ∷ [])) - 2) (omega (arith, length-append xs (0xF7 ∷ [])))
+
+pub ends_framed : (xs : List ℕ) → framed (0xF0 ∷ xs ++ (0xF7 ∷ [])) ≡ true
+ends_framed xs =
+    let bytes : List ℕ = 0xF0 ∷ xs ++ (0xF7 ∷ []) in
+    let size : length (0xF0 ∷ xs) ≡ length bytes - 1 = omega (arith, length-append xs (0xF7 ∷ [])) in
+    let long : 2 ≤ length bytes = omega (arith, length-append xs (0xF7 ∷ [])) in
+    rw (le-leb 2 (length bytes) long, get_or_at (0xF0 ∷ xs) 0xF7 [] 0 (length bytes - 1) size)
+
+-- and other bytes are not framed
 pub framed_is : (bytes : List ℕ) → framed bytes ≡ true → bytes ≡ 0xF0 ∷ body bytes ++ (0xF7 ∷ [])
 framed_is [] h = let z : ◌≡◌ {A = ℕ} 0 1 = cc in absurd (omega arith)
 framed_is (x ∷ rest) h =

@@ -22,7 +22,6 @@ use Rattle.running_status.specs.RunningStatus.{is_running, Item, when_item, when
 use Rattle.running_status.specs.StateBytes.{running_bytes, running_of}
 use Rattle.running_status.specs.Sending.{Handed, plain, item_handed, handed_out, Sending}
 use Rattle.running_status.specs.Sending as g
-use Rattle.running_status.specs.ReadBack.{NoShorter}
 use Rattle.running_status.proofs.Sends.{accepted_writes}
 use Rattle.running_status.proofs.StateBytes.{running_said, bytes_say_running}
 use Rattle.running_status.proofs.ReadBack.{reads_back}
@@ -31,7 +30,7 @@ use Rattle.host_answer.specs.declared.Answer.{Answer}
 use Rattle.host_answer.specs.Answer.{answer_of}
 use Rattle.host_running_status.specs.Running.{host_out, host_behind, called_out, running_after_call, RunningSent, HandedSent}
 use Rattle.host_damage.specs.HostCalls.{by_host}
-use Rattle.host_damage.specs.RunningCalls.{items_told, bytes_told, HostSending, no_call, one_call, HostReadsBack}
+use Rattle.host_damage.specs.RunningCalls.{items_told, bytes_told, HostSending, no_call, one_call, HostReadsBack, HostNoShorter}
 use Rattle.host_damage.proofs.Condition3OfHost.{promises_by_host}
 
 -- a refusal of the writer has a number of document 01's table, and so is not told as 0
@@ -118,6 +117,8 @@ reads_back_to_host is bytes calls fit store room cs log made =
     let too = sent_by_writer calls None refl refl in
     reads_back by_host (encoded fresh) (promises_by_host fresh).calls_mean is bytes too.0 too.1 fit store room cs log made
 
--- and no shorter bytes read by any list of dm_feed calls as the same messages
-pub no_shorter_to_host : NoShorter by_host (replicate 14 0)
-no_shorter_to_host = no_shorter_read by_host (encoded fresh) (promises_by_host fresh).calls_mean
+-- and no shorter bytes are read by any list of dm_feed calls as the same messages
+pub no_shorter_to_host : HostNoShorter (replicate 14 0)
+no_shorter_to_host is bytes calls =
+    let too = sent_by_writer calls None refl refl in
+    no_shorter_read by_host (encoded fresh) (promises_by_host fresh).calls_mean is bytes too.0 too.1

@@ -1,12 +1,12 @@
 -- Lists of a C host's calls of dm_running_channel, _common, _realtime and _frame that were made, refused ones among them, into any buffers.
-use Rattle.std.specs.Prelude.{◌≡◌, true, List, [], ◌∷◌, ◌++◌, ℕ, ◌≤◌, eqb, take, None, Option, Some}
+use Rattle.std.specs.Prelude.{◌≡◌, true, List, [], ◌∷◌, ◌++◌, ℕ, ◌≤◌, eqb, length, take, None, Option, Some}
 use Rattle.laws.specs.Choice.{pick}
 use Rattle.decoder.specs.State.{limit}
-use Rattle.damage.specs.Caller.{Call, CallLog, Made, Exactly}
+use Rattle.damage.specs.Caller.{Call, CallLog, Made, Exactly, total_used}
 use Rattle.running_status.specs.RunningStatus.{Item}
 use Rattle.running_status.specs.Sending.{Handed, item_handed}
 use Rattle.running_status.specs.StateBytes.{running_bytes}
-use Rattle.running_status.specs.Chain.{items_fit, chain_reports}
+use Rattle.running_status.specs.Chain.{items_fit, chain_reports, item_reports, in_order}
 use Rattle.host_answer.specs.declared.Answer.{Answer}
 use Rattle.host_running_status.specs.Running.{HandedSent}
 use Rattle.host_damage.specs.HostCalls.{by_host}
@@ -40,3 +40,10 @@ HostReadsBack start =
     (is : List Item) (bytes : List ℕ) → HostSending (running_bytes None) is bytes → items_fit is ≡ true
     → (store : List ℕ) → limit ≤ by_host.size store → (cs : List (Call by_host)) (log : CallLog) → Made by_host cs start store bytes log
     → Exactly cs (chain_reports None is) log
+
+-- "no shorter byte string reads from fresh as exactly that list of reports", by any list of dm_feed calls
+abbrev pub HostNoShorter : List ℕ → Type 0
+HostNoShorter start =
+    (is : List Item) (bytes : List ℕ) → HostSending (running_bytes None) is bytes → items_fit is ≡ true
+    → (store : List ℕ) → limit ≤ by_host.size store → (any : List ℕ) (cs : List (Call by_host)) (log : CallLog) → Made by_host cs start store any log
+    → in_order log.reports ≡ item_reports is → length bytes ≤ total_used log.answers

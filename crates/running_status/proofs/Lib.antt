@@ -1,6 +1,7 @@
 pub mod StateBytes
 pub mod Waiting
 pub mod Sends
+pub mod Written
 pub mod Reached
 pub mod StreamRead
 pub mod ReadBack

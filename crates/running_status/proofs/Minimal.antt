@@ -42,6 +42,7 @@ use Rattle.damage.proofs.Condition3InPlace.{promises_in_place}
 use Rattle.running_status.specs.RunningStatus.{Item, OfMessage, OfRealtime, shortened, running_after}
 use Rattle.running_status.specs.Chain.{items_fit, chain, item_reports, in_order}
 use Rattle.running_status.specs.ReadBack.{NoShorter}
+use Rattle.running_status.proofs.Sends.{sending_is_chain}
 use Rattle.running_status.proofs.Missing.{missing, one_byte_brings_one}
 use Rattle.running_status.proofs.LastMissing.{apart, nothing_said, too_long_said, only_breaks_off, Settled, settled_without, last_missing}
 
@@ -208,10 +209,11 @@ no_shorter is ok u says = omega (arith, missing_is_written None 0 [] is ok nothi
 
 -- the same of every caller whose calls report what history says, since history of the bytes used is the first part of history of them all
 pub no_shorter_read : (c : Caller) (start : c.State) → CallsMean c start → NoShorter c start
-no_shorter_read c start mean is ok store room any cs log made says =
+no_shorter_read c start mean is bytes last calls ok store room any cs log made says =
     let n = total_used log.answers in
     let same = (mean store room any cs log made).0 ∙ sym (meaning_take [] any n) in
-    omega (arith, no_shorter is ok (take n any) (ap in_order (sym same) ∙ says), length-take n any)
+    let sent : length bytes ≡ length (chain None is) = ap length (sending_is_chain calls refl).0 in
+    omega (arith, no_shorter is ok (take n any) (ap in_order (sym same) ∙ says), length-take n any, sent)
 
 -- the same of the code's own calls, from every state that a reset leaves
 pub no_shorter_by_value : (d : Decoder) → NoShorter by_value (reset d)

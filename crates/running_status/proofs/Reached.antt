@@ -1,7 +1,7 @@
--- Every state of the writer is left by some call from none, because each status byte 80 to EF is the status byte of a channel message; and no other
--- state is ever left.
-use Rattle.std.specs.Prelude.{None, Ok, Option, Result, Some}
-use mathlib.Core.Path.{◌≡◌, refl, subst}
+-- Every state of the writer is left by some calls from none, because each status byte 80 to EF is the status byte of a channel message in range; and no
+-- other state is ever left.
+use Rattle.std.specs.Prelude.{None, Option, Some}
+use mathlib.Core.Path.{◌≡◌, refl, ◌∙◌, ap, subst}
 use mathlib.Core.Bool.{true}
 use mathlib.Core.List.{List, [], ◌∷◌}
 use Prim.Native.Nat.{ℕ, ◌+◌, ◌%◌, ◌≤◌, ◌<◌}
@@ -10,50 +10,36 @@ use lib.Dec.{ltb, leb}
 use lib.ListN.{length}
 use borrow.Author.Tests.{ltb-true, ltb-false, leb-true, lt-ltb, le-leb}
 use Rattle.laws.proofs.Tests.{split, both}
-use Rattle.refusal.specs.Outcome.{Outcome, gives, after}
-use Rattle.refusal.specs.declared.Refusal.{Refusal}
-use Rattle.wire.specs.declared.Channel.{Channel}
 use Rattle.wire.specs.declared.channel_message.ChannelMessage.{ChannelMessage}
 use Rattle.wire.specs.declared.channel_message.ChannelMessage.TheVariants as w
-use Rattle.wire.specs.ChannelMessage.{status_nibble, channel_bytes}
+use Rattle.wire.specs.ChannelMessage.{status_nibble, channel_bytes, message_in_range}
 use Rattle.wire.proofs.channel_message.Bytes.{channel_length}
-use Rattle.running_status.specs.declared.Outgoing.TheVariants as o
-use Rattle.running_status.specs.declared.Emitted.{Emitted}
-use Rattle.running_status.specs.RunningStatus.{is_running, Item, message_out, Emits}
-use Rattle.running_status.specs.Sending.{plain, Sending, no_call, one_call}
-use Rattle.running_status.proofs.Sends.{sending_is_chain}
+use Rattle.decoder.specs.State.{limit}
+use Rattle.decoder.proofs.Limit.{room_for_three}
+use Rattle.damage.specs.Sent.{Voice, sendable}
+use Rattle.running_status.specs.RunningStatus.{is_running, Item, OfMessage}
+use Rattle.running_status.specs.Sending.{Sending, no_call}
+use Rattle.running_status.proofs.Sends.{sending_is_chain, state_is_theirs}
+use Rattle.running_status.proofs.Written.{every_list_is_sent}
 
--- some message has this status byte on this channel
-message_of : (b : ℕ) → 0x80 ≤ b → b < 0xF0 → (m : ChannelMessage) × (status_nibble m + b % 16 ≡ b)
+-- some message in range has this status byte on this channel
+record OfStatus (b : ℕ) : Type 0 where
+  message : ChannelMessage
+  in_range : message_in_range message ≡ true
+  is : status_nibble message + b % 16 ≡ b
+
+message_of : (b : ℕ) → 0x80 ≤ b → b < 0xF0 → OfStatus b
 message_of b low high =
-    below 0x90 (λ h. (w.NoteOff 0 0, omega arith))
-    (λ h8. below 0xA0 (λ h. (w.NoteOn 0 0, omega arith))
-    (λ h9. below 0xB0 (λ h. (w.PolyKeyPressure 0 0, omega arith))
-    (λ hA. below 0xC0 (λ h. (w.ControlChange 0 0, omega arith))
-    (λ hB. below 0xD0 (λ h. (w.ProgramChange 0, omega arith))
-    (λ hC. below 0xE0 (λ h. (w.ChannelPressure 0, omega arith)) (λ hD. (w.PitchBend 0, omega arith)))))))
+    below 0x90 (λ h. record { message = w.NoteOff 0 0; in_range = refl; is = omega arith })
+    (λ h8. below 0xA0 (λ h. record { message = w.NoteOn 0 0; in_range = refl; is = omega arith })
+    (λ h9. below 0xB0 (λ h. record { message = w.PolyKeyPressure 0 0; in_range = refl; is = omega arith })
+    (λ hA. below 0xC0 (λ h. record { message = w.ControlChange 0 0; in_range = refl; is = omega arith })
+    (λ hB. below 0xD0 (λ h. record { message = w.ProgramChange 0; in_range = refl; is = omega arith })
+    (λ hC. below 0xE0 (λ h. record { message = w.ChannelPressure 0; in_range = refl; is = omega arith })
+    (λ hD. record { message = w.PitchBend 0; in_range = refl; is = omega arith }))))))
   where
     below : {P : Type 0} (n : ℕ) → (b < n → P) → (n ≤ b → P) → P
     below n f g = split (ltb b n) (λ t. f (ltb-true b n t)) (λ t. g (ltb-false b n t))
-
--- the call that writes it into a buffer of three bytes
-one_message : (c : Channel) (m : ChannelMessage) → c.0 < 16 → (is : List Item) × (bytes : List ℕ) × Sending None is bytes (Some (status_nibble m + c.0))
-one_message c m in_channel = (_, _, one_call (plain (o.Channel c m)) room (after outcome room) answer met no_call)
-  where
-    room : List ℕ
-    room = 0 ∷ 0 ∷ 0 ∷ []
-
-    outcome : Outcome (List ℕ)
-    outcome = message_out None (o.Channel c m) (length room)
-
-    answer : Result Emitted Refusal
-    answer = Ok (record { count = length (channel_bytes c m); state = Some (status_nibble m + c.0) })
-
-    fits : outcome ≡ gives (channel_bytes c m)
-    fits = rw (lt-ltb c.0 16 in_channel, le-leb (length (channel_bytes c m)) 3 (omega (arith, (channel_length m).1)))
-
-    met : Emits outcome (Some (status_nibble m + c.0)) answer room (after outcome room)
-    met = record { answers = rw fits; leaves = refl }
 
 -- 20 is of a state "that no calls from fresh give": every other is given by some calls from none
 pub every_state_is_reached : (st : Option ℕ) → is_running st ≡ true → (is : List Item) × (bytes : List ℕ) × Sending None is bytes st
@@ -61,7 +47,13 @@ every_state_is_reached None fine = ([], [], no_call)
 every_state_is_reached (Some b) fine =
     let range = both (leb 0x80 b) (ltb b 0xF0) fine in
     let found = message_of b (leb-true 0x80 b range.0) (ltb-true b 0xF0 range.1) in
-    subst (λ (x : ℕ). (is : List Item) × (bytes : List ℕ) × Sending None is bytes (Some x)) found.1 (one_message (record { 0 = b % 16 }) found.0 (omega arith))
+    let m = found.message in
+    let short : length (channel_bytes (record { 0 = b % 16 }) m) ≤ limit = omega (arith, (channel_length m).1, room_for_three) in
+    let fits : sendable (Voice (record { 0 = b % 16 }) m) ≡ true =
+    rw (lt-ltb (b % 16) 16 (omega arith), found.in_range, le-leb (length (channel_bytes (record { 0 = b % 16 }) m)) limit short) in
+    let is : List Item = OfMessage (Voice (record { 0 = b % 16 }) m) ∷ [] in
+    let sent = every_list_is_sent None refl is (rw fits) in
+    (is, sent.0, subst (λ (st : Option ℕ). Sending None is sent.0 st) (state_is_theirs sent.2 refl ∙ ap (λ (n : ℕ). Some n) found.is) sent.2)
 
 -- and no calls give one that is refused
 pub reached_is_running : {st : Option ℕ} {is : List Item} {bytes : List ℕ} → Sending None is bytes st → is_running st ≡ true

@@ -20,7 +20,7 @@ use Rattle.running_status.specs.declared.Outgoing.{Outgoing}
 use Rattle.running_status.specs.declared.Outgoing.TheVariants as o
 use Rattle.running_status.specs.declared.Emitted.{Emitted}
 use Rattle.running_status.specs.RunningStatus.{is_running, shortened, Item, item_bytes, state_behind, item_of, when_item, when_frame}
-use Rattle.running_status.specs.Chain.{chain}
+use Rattle.running_status.specs.Chain.{chain, chain_state}
 use Rattle.running_status.specs.Sending.{Handed, plain, item_handed, handed_out, state_kept, gone_out, items_accepted, Sending, no_call, one_call}
 use Rattle.running_status.specs.Sending as g
 use Rattle.running_status.proofs.Waiting.{voice_in_force}
@@ -59,14 +59,9 @@ accepted_writes st (g.framed bs) room w fine e =
     let is = framed_is bs (passed (framed bs) 1 [] low w e1) in
     (fitted room bs w (passed_on (leb (length bs) limit) 19 (limit ∷ []) (with_room room bs) w e2) ∙ is ∙ sym (frame_whole st (body bs)), refl)
 
--- the state behind messages, one behind the other
-abbrev pub state_behind_all : Option ℕ → List Item → Option ℕ
-state_behind_all st [] = st
-state_behind_all st (i ∷ is) = state_behind_all (state_behind st i) is
-
 -- what is to be shown of the bytes that were sent and the state behind them
 abbrev AllSent : Option ℕ → List Item → List ℕ → Option ℕ → Type 0
-AllSent st is bytes last = (bytes ≡ chain st is) × (is_running last ≡ true) × (last ≡ state_behind_all st is)
+AllSent st is bytes last = (bytes ≡ chain st is) × (is_running last ≡ true) × (last ≡ chain_state st is)
 
 -- one call in front of others, by what it comes to
 abbrev CallInFront : Option ℕ → Handed → List ℕ → List Item → List ℕ → Option ℕ → Outcome Emitted → Type 0
@@ -96,5 +91,5 @@ pub sending_is_chain : {st last : Option ℕ} {is : List Item} {bytes : List ℕ
 sending_is_chain made fine = let r = all_sent made fine in (r.0, r.1)
 
 -- the state behind the calls is the one behind the accepted messages
-pub state_is_theirs : {st last : Option ℕ} {is : List Item} {bytes : List ℕ} → Sending st is bytes last → is_running st ≡ true → last ≡ state_behind_all st is
+pub state_is_theirs : {st last : Option ℕ} {is : List Item} {bytes : List ℕ} → Sending st is bytes last → is_running st ≡ true → last ≡ chain_state st is
 state_is_theirs made fine = (all_sent made fine).2

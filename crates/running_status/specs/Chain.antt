@@ -18,6 +18,11 @@ unfoldable pub chain : Option ℕ → List Item → List ℕ
 chain st [] = []
 chain st (i ∷ is) = item_bytes st i ++ chain (state_behind st i) is
 
+-- the state behind all of them
+abbrev pub chain_state : Option ℕ → List Item → Option ℕ
+chain_state st [] = st
+chain_state st (i ∷ is) = chain_state (state_behind st i) is
+
 -- what a message is reported as
 abbrev pub item_report : Item → Reported
 item_report (OfMessage m) = gives (event_of m)

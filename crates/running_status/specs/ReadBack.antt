@@ -3,7 +3,7 @@ use Rattle.std.specs.Prelude.{◌≡◌, true, List, ℕ, ◌≤◌, length, Non
 use Rattle.decoder.specs.State.{limit}
 use Rattle.damage.specs.Caller.{Caller, Call, CallLog, Made, Exactly, total_used}
 use Rattle.running_status.specs.RunningStatus.{Item}
-use Rattle.running_status.specs.Chain.{items_fit, chain, chain_reports, item_reports, in_order}
+use Rattle.running_status.specs.Chain.{items_fit, chain_reports, item_reports, in_order}
 use Rattle.running_status.specs.Sending.{Sending}
 
 -- "Reading from fresh what was written from the state none gives the same in-range messages": what any list of the writer's calls wrote, refused ones
@@ -14,10 +14,11 @@ ReadsBack c start =
     → (store : c.Store) → limit ≤ c.size store → (cs : List (Call c)) (log : CallLog) → Made c cs start store bytes log
     → Exactly cs (chain_reports None is) log
 
--- "no shorter byte string reads from fresh as exactly that list of reports": whatever bytes are handed in, by whatever calls, where the reports are
--- those of these messages, as many bytes were used as the writer writes. The order asks it of lists without real-time messages; it holds with them
+-- "written so, no shorter byte string reads from fresh as exactly that list of reports": whatever bytes are handed in, by whatever calls, where the
+-- reports are those of these messages, at least as many bytes were used as the writer's calls sent. The order asks it of lists without real-time
+-- messages; it holds with them
 abbrev pub NoShorter : (c : Caller) → c.State → Type 0
 NoShorter c start =
-    (is : List Item) → items_fit is ≡ true
+    (is : List Item) (bytes : List ℕ) (last : Option ℕ) → Sending None is bytes last → items_fit is ≡ true
     → (store : c.Store) → limit ≤ c.size store → (any : List ℕ) (cs : List (Call c)) (log : CallLog) → Made c cs start store any log
-    → in_order log.reports ≡ item_reports is → length (chain None is) ≤ total_used log.answers
+    → in_order log.reports ≡ item_reports is → length bytes ≤ total_used log.answers
