@@ -61,13 +61,14 @@ function target(place) {
 }
 
 # Where the table begins that the jump at a place takes its target from: the register that it jumps by was loaded from base + 4 * index, and the
-# base holds the table's address. Nothing where the jump has another form.
+# base holds the table's address; from r13 it is written with a distance of 0. Nothing where the jump has another form.
 function table(place,    to, base, p) {
     to = substr(args[place], 2)
-    for (p = ahead[place]; p != "" && args[p] !~ ("^\\(%r[a-z0-9]+,%r[a-z0-9]+,4\\)," to "$"); p = ahead[p])
+    for (p = ahead[place]; p != "" && args[p] !~ ("^(0x0)?\\(%r[a-z0-9]+,%r[a-z0-9]+,4\\)," to "$"); p = ahead[p])
         if (op[p] ~ /^(j|call|ret)/) return ""
     if (op[p] != "movslq") return ""
-    base = substr(args[p], 2, index(args[p], ",") - 2)
+    base = substr(args[p], index(args[p], "(") + 1)
+    base = substr(base, 1, index(base, ",") - 1)
     for (p = ahead[p]; p != "" && args[p] !~ ("," base "$"); p = ahead[p]) {}
     return op[p] == "lea" && args[p] ~ /^0x0\(%rip\),/ && p in refers ? led(part(p, 1), refers[p], 4) : ""
 }

@@ -123,7 +123,7 @@ history_of_damage ms ok sent w i n new =
         ∙ ap (take i) (woven w [] (messages_read ms ok 0 [] refl)) ∙ sym (map_take (λ (t : Tag). t.intact) sent i)
 
 -- history has one entry for each byte
-meaning_length : (past xs : List ℕ) → length (meaning past xs) ≡ length xs
+pub meaning_length : (past xs : List ℕ) → length (meaning past xs) ≡ length xs
 unfolding meaning
 meaning_length past [] = refl
 meaning_length past (x ∷ xs) = ap suc (meaning_length (x ∷ past) xs)

@@ -1,5 +1,4 @@
 -- Every frame that the reader refuses gets a number of document 01's table, test by test.
-use Rattle.std.specs.Prelude.{None, Option, Some}
 use mathlib.Core.Path.{◌≡◌, refl}
 use mathlib.Core.Bool.{Bool, true, false, ◌&&◌, ◌||◌, not}
 use mathlib.Core.List.{List, [], ◌∷◌}
@@ -17,7 +16,8 @@ use Rattle.command.specs.Payload as y
 use Rattle.command.specs.Payload.{Field, payload_of, raw_length_for, carries_run}
 use Rattle.command.proofs.Table.{command_numbered}
 use Rattle.packed.specs.Packed.{packed_length}
-use Rattle.framing.specs.Framing.{framed, body, first_high, unless_high, when_seven_bit, same_bytes}
+use Rattle.framing.proofs.Bytes.{high_numbered}
+use Rattle.framing.specs.Framing.{framed, body, first_high, when_seven_bit, same_bytes}
 use Rattle.message.specs.declared.fields.Fields.{Fields}
 use Rattle.message.specs.Prefix.{optional, field_list, fields_at, field_fits, field_ok, checked}
 use Rattle.frame_reader.specs.Payload.{accepted, is_any, numbered_by, early, prefix_length, when_length, when_run, read_fields, read_short, read_run, read_dump, read_payload}
@@ -77,10 +77,6 @@ payload_numbered k p = go (carries_run k)
         length_numbered (leb (early k) (length p)) k (prefix_length k) p (field_ok y.version v (read_run k v p))
         (field_numbered y.version v (read_run k v p) (behind_version k v p))
     go false = length_numbered (eqb (length p) (prefix_length k)) k (prefix_length k) p (read_fields k false p) (fields_numbered k false p)
-
-high_numbered : {A : Type 0} (b : Option ℕ) (next : Outcome A) → numbered next ≡ true → numbered (unless_high b next) ≡ true
-high_numbered None next h = h
-high_numbered (Some b) next h = refl
 
 behind_header : (bytes : List ℕ) → numbered (read_command bytes) ≡ true
 behind_header bytes =

@@ -17,6 +17,7 @@ use Rattle.octets.specs.quick.Data.{data_run}
 use Rattle.octets.proofs.data_bytes.Runs.{run_none, by_byte}
 use Rattle.refusal.specs.Outcome.{Outcome, gives}
 use Rattle.refusal.proofs.Given.{given_not_refused}
+use Rattle.refusal.proofs.Numbered.{numbered}
 use Rattle.framing.specs.Framing.{framed, body, first_high, unless_high, same_bytes}
 
 -- the first high byte stands right behind the run of data bytes
@@ -66,6 +67,11 @@ pub no_high : {A : Type 0} (high : Option ℕ) (next : Outcome A) (a : A) → un
 no_high None next a e = (refl, e)
 no_high (Some b) next a e = absurd (given_not_refused a 2 (b ∷ []) e)
 
+-- 2 has a number of the table
+pub high_numbered : {A : Type 0} (high : Option ℕ) (next : Outcome A) → numbered next ≡ true → numbered (unless_high high next) ≡ true
+high_numbered None next h = h
+high_numbered (Some b) next h = refl
+
 -- no high byte in two lists: none in the second
 pub high_none_behind : (l k : List ℕ) → first_high (l ++ k) ≡ None → first_high k ≡ None
 high_none_behind [] k h = h
@@ -82,10 +88,11 @@ ends_with l n e =
     let last : n < length l = omega arith in
     sym (take_all (suc n) l all) ∙ take-suc l n 0 last
 
--- F0, a body and F7 are framed, with that body
+-- the body of F0, such bytes and F7
 pub body_is : (xs : List ℕ) → body (0xF0 ∷ xs ++ (0xF7 ∷ [])) ≡ xs
 body_is xs = take_at xs (0xF7 ∷ []) (length (0xF0 ∷ xs ++ (0xF7 ∷ [])) - 2) (omega (arith, length-append xs (0xF7 ∷ [])))
 
+-- F0, a body and F7 are framed
 pub ends_framed : (xs : List ℕ) → framed (0xF0 ∷ xs ++ (0xF7 ∷ [])) ≡ true
 ends_framed xs =
     let bytes : List ℕ = 0xF0 ∷ xs ++ (0xF7 ∷ []) in
@@ -93,7 +100,7 @@ ends_framed xs =
     let long : 2 ≤ length bytes = omega (arith, length-append xs (0xF7 ∷ [])) in
     rw (le-leb 2 (length bytes) long, get_or_at (0xF0 ∷ xs) 0xF7 [] 0 (length bytes - 1) size)
 
--- and other bytes are not framed
+-- framed bytes are F0, their body and F7
 pub framed_is : (bytes : List ℕ) → framed bytes ≡ true → bytes ≡ 0xF0 ∷ body bytes ++ (0xF7 ∷ [])
 framed_is [] h = let z : ◌≡◌ {A = ℕ} 0 1 = cc in absurd (omega arith)
 framed_is (x ∷ rest) h =

@@ -35,21 +35,21 @@ abbrev pub Named : Option Report → Type 0
 Named None = Unit {0}
 Named (Some x) = NamedReport x
 
-common_named : (x : Option SystemCommon) → Named (common_report x)
-common_named (Some x) = tt
-common_named None = tt
+common_is_named : (x : Option SystemCommon) → Named (common_report x)
+common_is_named (Some x) = tt
+common_is_named None = tt
 
-realtime_named : (x : Option Realtime) → Named (realtime_report x)
-realtime_named (Some x) = tt
-realtime_named None = tt
+realtime_is_named : (x : Option Realtime) → Named (realtime_report x)
+realtime_is_named (Some x) = tt
+realtime_is_named None = tt
 
-message_named : (v first second : ℕ) → Named (message_report v first second)
+message_is_named : (v first second : ℕ) → Named (message_report v first second)
 unfolding message_report
-message_named v first second = go (channel_message v first second)
+message_is_named v first second = go (channel_message v first second)
   where
     go : (x : Option ChannelMessage) → Named (or_common x v first second)
     go (Some x) = omega arith
-    go None = common_named (common_message v first second)
+    go None = common_is_named (common_message v first second)
 
 step_named : (d : Decoder) (b : ℕ) → Named (step d b).report
 unfolding step
@@ -61,7 +61,7 @@ step_named d b = go (class_of b)
     collected : (v : Option ℕ) → P (collect v d b)
     collected None = tt
     collected (Some v) =
-        by_test P (eqb d.have 0) _ _ (λ e. by_test P (leb (data_length v) 1) _ _ (λ l. message_named v b 0) (λ l. tt)) (λ e. message_named v d.data0 b)
+        by_test P (eqb d.have 0) _ _ (λ e. by_test P (leb (data_length v) 1) _ _ (λ l. message_is_named v b 0) (λ l. tt)) (λ e. message_is_named v d.data0 b)
 
     go : (c : Class) → P (step_in c d b)
     go k.Data = by_test P d.in_sysex _ _ (λ e. by_test P (ltb d.len limit) _ _ (λ l. tt) (λ l. tt)) (λ e. collected d.status)
@@ -70,7 +70,7 @@ step_named d b = go (class_of b)
     go k.Undefined = tt
     go k.Tune = tt
     go k.End = by_test P d.in_sysex _ _ (λ e. by_test P (ltb d.len limit) _ _ (λ l. tt) (λ l. tt)) (λ e. tt)
-    go k.Realtime = realtime_named (realtime_of b)
+    go k.Realtime = realtime_is_named (realtime_of b)
 
 pub walk_named : (bytes : List ℕ) (d : Decoder) (store : List ℕ) → Named (walk d store bytes).fed.report
 unfolding walk

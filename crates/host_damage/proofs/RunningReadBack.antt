@@ -1,43 +1,44 @@
 -- What a host sends by dm_running_* calls is what the writer sends by its own, because each call that is answered with 0 is a call of the writer on the
 -- state that the bytes say, and every other leaves all bytes. So dm_feed reads it back, as the decoder does.
 use Rattle.std.specs.Prelude.{None, Ok, Option, Some}
-use mathlib.Core.Path.{◌≡◌, refl, ◌∙◌, ap, subst}
+use mathlib.Core.Path.{◌≡◌, refl, sym, ◌∙◌, ap, subst}
 use mathlib.Core.Bool.{Bool, true}
-use mathlib.Core.List.{List, [], ◌∷◌, ◌++◌}
+use mathlib.Core.List.{List, [], ◌++◌}
 use Prim.Native.Nat.{ℕ}
 use native.Mathlib.Omega.{arith}
 use lib.Dec.{leb, ltb}
 use lib.ListN.{length, replicate}
 use borrow.Author.Tests.{ne_eqb, leb-true}
 use Rattle.laws.proofs.Tests.{both}
-use Rattle.refusal.specs.Outcome.{Outcome, gives, refused, unless, with_room, after, count_of}
+use Rattle.refusal.specs.Outcome.{Outcome, gives, refused, unless, and_then, answered, with_room, after, count_of}
 use Rattle.refusal.proofs.Numbered.{numbered, unless_numbered}
 use Rattle.wire.specs.SystemCommon.{common, common_in_range}
 use Rattle.decoder.specs.State.{limit, fresh}
-use Rattle.framing.specs.Framing.{framed, body, first_high, unless_high}
+use Rattle.framing.proofs.Bytes.{high_numbered}
+use Rattle.framing.specs.Framing.{framed, body, first_high}
 use Rattle.stream.specs.State.{encoded}
 use Rattle.running_status.specs.declared.Outgoing.{Outgoing}
 use Rattle.running_status.specs.declared.Outgoing.TheVariants as o
-use Rattle.running_status.specs.RunningStatus.{is_running, Item, when_item, when_frame, state_behind}
-use Rattle.running_status.specs.StateBytes.{running_bytes, running_of}
-use Rattle.running_status.specs.Sending.{Handed, plain, item_handed, handed_out, Sending}
+use Rattle.running_status.specs.declared.Emitted.{Emitted}
+use Rattle.running_status.specs.RunningStatus.{is_running, Item, when_item, when_frame, state_behind, Emits}
+use Rattle.running_status.specs.Chain.{items_fit}
+use Rattle.running_status.specs.StateBytes.{running_bytes, says_running, running_of}
+use Rattle.running_status.specs.Sending.{Handed, plain, frame_bytes, item_handed, handed_out, state_kept, gone_out, items_accepted, Sending}
 use Rattle.running_status.specs.Sending as g
-use Rattle.running_status.proofs.Sends.{accepted_writes}
+use Rattle.running_status.proofs.Sends.{accepted_writes, sending_is_chain}
 use Rattle.running_status.proofs.StateBytes.{running_said, bytes_say_running}
-use Rattle.running_status.proofs.ReadBack.{reads_back}
+use Rattle.running_status.proofs.ReadBack.{same_messages, reads_back}
+use Rattle.running_status.proofs.Written.{every_list_is_sent}
+use Rattle.running_status.proofs.Reached.{reached_is_running}
 use Rattle.running_status.proofs.Minimal.{no_shorter_read}
 use Rattle.host_answer.specs.declared.Answer.{Answer}
 use Rattle.host_answer.specs.Answer.{answer_of}
 use Rattle.host_running_status.specs.Running.{host_out, host_behind, called_out, running_after_call, RunningSent, HandedSent}
 use Rattle.host_damage.specs.HostCalls.{by_host}
-use Rattle.host_damage.specs.RunningCalls.{items_told, bytes_told, HostSending, no_call, one_call, HostReadsBack, HostNoShorter}
+use Rattle.host_damage.specs.RunningCalls.{items_told, bytes_told, HostSending, no_call, one_call, HostSameMessages, HostReadsBack, HostNoShorter}
 use Rattle.host_damage.proofs.Condition3OfHost.{promises_by_host}
 
 -- a refusal of the writer has a number of document 01's table, and so is not told as 0
-high_numbered : (high : Option ℕ) (next : Outcome (List ℕ)) → numbered next ≡ true → numbered (unless_high high next) ≡ true
-high_numbered None next h = h
-high_numbered (Some b) next h = refl
-
 room_numbered : (room : ℕ) (bytes : List ℕ) → numbered (with_room room bytes) ≡ true
 room_numbered room bytes = unless_numbered (leb (length bytes) room) 14 _ (gives bytes) refl refl
 
@@ -48,39 +49,40 @@ item_numbered (o.Realtime x) next h = h
 
 handed_numbered : (st : Option ℕ) (x : Handed) (room : ℕ) → numbered (handed_out st x room) ≡ true
 handed_numbered st (plain m) room = unless_numbered (is_running st) 20 [] (when_item m _) refl (item_numbered m _ (room_numbered room _))
-handed_numbered st (g.framed bs) room =
+handed_numbered st (frame_bytes bs) room =
     unless_numbered (is_running st) 20 [] (when_frame bs (with_room room bs)) refl
     (unless_numbered (framed bs) 1 [] _ refl
     (high_numbered (first_high (body bs)) _ (unless_numbered (leb (length bs) limit) 19 _ (with_room room bs) refl (room_numbered room bs))))
 
--- what is to be found: calls of the writer that send the same
-abbrev SentToo : Option ℕ → List Item → List ℕ → Type 0
-SentToo st is bytes = (last : Option ℕ) × Sending st is bytes last
+-- what is to be found: calls of the writer that send the same, and leave the state whose bytes the host's calls leave
+abbrev SentToo : Option ℕ → List Item → List ℕ → List ℕ → Type 0
+SentToo st is bytes left = (last : Option ℕ) × Sending st is bytes last × (left ≡ running_bytes last)
 
-module _ (st : Option ℕ) (fine : is_running st ≡ true) (answer : Answer) (left out later : List ℕ) (is : List Item) (bytes : List ℕ)
-    (rest : (next : Option ℕ) → left ≡ running_bytes next → is_running next ≡ true → SentToo next is bytes) where
+module _ (st : Option ℕ) (fine : is_running st ≡ true) (answer : Answer) (left out later : List ℕ) (is : List Item) (bytes end : List ℕ)
+    (rest : (next : Option ℕ) → left ≡ running_bytes next → is_running next ≡ true → SentToo next is bytes end) where
   -- a call that was refused sends nothing, and leaves the state's bytes
-  refused_call : (x : Option Handed) (n : ℕ) (values : List ℕ) (next : Option ℕ) → (n ≡ 0 → ⊥)
+  nothing_sent : (x : Option Handed) (n : ℕ) (values : List ℕ) (next : Option ℕ) → (n ≡ 0 → ⊥)
       → RunningSent (refused n values) next answer (running_bytes st) left out later
-      → SentToo st (items_told answer x ++ is) (bytes_told answer later ++ bytes)
-  refused_call x n values next high met = rw (met.sends.answers, ne_eqb n 0 high) (rest st met.keeps fine)
+      → SentToo st (items_told answer x ++ is) (bytes_told answer later ++ bytes) end
+  nothing_sent x n values next high met = rw (met.sends.answers, ne_eqb n 0 high) (rest st met.keeps fine)
 
   -- a call of the writer with what the host's call is handed
   writer_call : (h : Handed) (a : Outcome (List ℕ)) → handed_out st h (length out) ≡ a → numbered a ≡ true
       → RunningSent a (state_behind st (item_handed h)) answer (running_bytes st) left out later
-      → SentToo st (items_told answer (Some h) ++ is) (bytes_told answer later ++ bytes)
+      → SentToo st (items_told answer (Some h) ++ is) (bytes_told answer later ++ bytes) end
   writer_call h (gives w) e in-table met =
       let next = state_behind st (item_handed h) in
       let behind = rest next met.keeps (accepted_writes st h (length out) w fine e).1 in
-      rw met.sends.answers
-      (behind.0, g.one_call {st = st} h out later (Ok (record { count = length w; state = next })) (record { answers = rw e; leaves = rw e met.sends.leaves }) behind.1)
+      let emits : Emits (handed_out st h (length out)) next (Ok (record { count = length w; state = next })) out later =
+      record { answers = rw e; leaves = rw e met.sends.leaves } in
+      rw met.sends.answers (behind.0, g.one_call {st = st} h out later (Ok (record { count = length w; state = next })) emits behind.1, behind.2)
   writer_call h (refused n values) e in-table met =
-      refused_call (Some h) n values _ (λ z. omega (arith, leb-true 1 n (both (leb 1 n) (leb n 22) in-table).0, z)) met
+      nothing_sent (Some h) n values _ (λ z. omega (arith, leb-true 1 n (both (leb 1 n) (leb n 22) in-table).0, z)) met
 
   any_call : (x : Option Handed) → RunningSent (host_out st x (length out)) (host_behind st x) answer (running_bytes st) left out later
-      → SentToo st (items_told answer x ++ is) (bytes_told answer later ++ bytes)
+      → SentToo st (items_told answer x ++ is) (bytes_told answer later ++ bytes) end
   any_call (Some h) met = writer_call h _ refl (handed_numbered st h (length out)) met
-  any_call None met = refused_call None 255 [] st (λ z. omega arith) met
+  any_call None met = nothing_sent None 255 [] st (λ z. omega arith) met
 
 -- a call on the bytes that say a state is a call on that state
 on_the_state : (st : Option ℕ) → is_running st ≡ true → (x : Option Handed) (room : ℕ)
@@ -92,33 +94,85 @@ on_the_state st fine x room = (
 )
 
 -- whatever a host's calls sent, some calls of the writer send
-pub sent_by_writer : {state : List ℕ} {is : List Item} {bytes : List ℕ} → HostSending state is bytes → (st : Option ℕ) → state ≡ running_bytes st
-    → is_running st ≡ true → SentToo st is bytes
-sent_by_writer no_call st e fine = (st, g.no_call)
-sent_by_writer (one_call {state} {is} {bytes} x answer left out later met calls) st e fine =
+pub sent_by_writer : {state last : List ℕ} {is : List Item} {bytes : List ℕ} → HostSending state is bytes last → (st : Option ℕ) → state ≡ running_bytes st
+    → is_running st ≡ true → SentToo st is bytes last
+sent_by_writer no_call st e fine = (st, g.no_call, e)
+sent_by_writer (one_call {state} {last} {is} {bytes} x answer left out later met calls) st e fine =
     let same = on_the_state st fine x (length out) in
     let on_bytes : HandedSent x answer (running_bytes st) left out later = subst (λ (s : List ℕ). HandedSent x answer s left out later) e met in
-    any_call st fine answer left out later is bytes (λ next k ok. sent_by_writer calls next k ok) x
+    any_call st fine answer left out later is bytes last (λ next k ok. sent_by_writer calls next k ok) x
     (subst (λ (b : Option ℕ). RunningSent (host_out st x (length out)) b answer (running_bytes st) left out later) same.1
     (subst (λ (a : Outcome (List ℕ)). RunningSent a (host_behind (running_of (running_bytes st)) x) answer (running_bytes st) left out later) same.0 on_bytes))
 
--- lists of calls exist: whatever is handed in, into whatever buffers, the contract has an answer
-pub host_sending_exists : (calls : List (Option Handed × List ℕ)) (state : List ℕ) → (is : List Item) × (bytes : List ℕ) × HostSending state is bytes
-host_sending_exists [] state = ([], [], no_call)
-host_sending_exists ((x, out) ∷ calls) state =
-    let a = called_out state x (length out) in
-    let left = running_after_call a (host_behind (running_of state) x) state in
-    let rest = host_sending_exists calls left in
-    (_, _, one_call x (answer_of (count_of a)) left out (after a out) (record { sends = record { answers = refl; leaves = refl }; keeps = refl }) rest.2)
-
--- READ-BACK for lists of entry points' calls: what dm_running_* wrote, dm_feed reads back, from fourteen bytes 00
-pub reads_back_to_host : HostReadsBack (replicate 14 0)
-reads_back_to_host is bytes calls fit store room cs log made =
+-- the state's bytes stay a state's: 20 never comes in a list of calls that began with dm_running_fresh
+pub state_stays : {last : List ℕ} {is : List Item} {bytes : List ℕ} → HostSending (running_bytes None) is bytes last → says_running last ≡ true
+state_stays calls =
     let too = sent_by_writer calls None refl refl in
-    reads_back by_host (encoded fresh) (promises_by_host fresh).calls_mean is bytes too.0 too.1 fit store room cs log made
+    ap says_running too.2 ∙ bytes_say_running too.0 ∙ reached_is_running too.1
 
--- and no shorter bytes are read by any list of dm_feed calls as the same messages
+-- what a call of the writer answers
+abbrev emitted_of : Outcome (List ℕ) → Option ℕ → Outcome Emitted
+emitted_of o next = and_then o (λ (bytes : List ℕ). gives (record { count = length bytes; state = next }))
+
+-- a host's call with what a call of the writer is handed
+module _ (st : Option ℕ) (fine : is_running st ≡ true) (h : Handed) (out : List ℕ) (is : List Item) (bytes end : List ℕ) where
+  abbrev next : Option ℕ
+  next = state_behind st (item_handed h)
+
+  meets : (a : Outcome (List ℕ)) → handed_out st h (length out) ≡ a
+      → HandedSent (Some h) (answer_of (count_of a)) (running_bytes st) (running_after_call a next (running_bytes st)) out (after a out)
+  meets a e =
+      let same = on_the_state st fine (Some h) (length out) in
+      subst (λ (b : Option ℕ). RunningSent (called_out (running_bytes st) (Some h) (length out)) b (answer_of (count_of a)) (running_bytes st)
+      (running_after_call a next (running_bytes st)) out (after a out)) (sym same.1)
+      (subst (λ (o : Outcome (List ℕ)). RunningSent o next (answer_of (count_of a)) (running_bytes st) (running_after_call a next (running_bytes st)) out (after a out))
+      (sym (same.0 ∙ e)) (record { sends = record { answers = refl; leaves = refl }; keeps = refl }))
+
+  host_call : (a : Outcome (List ℕ)) → handed_out st h (length out) ≡ a → numbered a ≡ true
+      → HostSending (running_bytes (state_kept (emitted_of a next) st)) is bytes end
+      → HostSending (running_bytes st) (items_accepted (emitted_of a next) h ++ is) (gone_out (emitted_of a next) (after a out) ++ bytes) end
+  host_call (gives w) e in-table rest = one_call (Some h) (answer_of (gives (length w))) (running_bytes next) out (after (gives w) out) (meets (gives w) e) rest
+  host_call (refused n values) e in-table rest =
+      let high : n ≡ 0 → ⊥ = λ z. omega (arith, leb-true 1 n (both (leb 1 n) (leb n 22) in-table).0, z) in
+      let sent = one_call (Some h) (answer_of (refused n values)) (running_bytes st) out out (meets (refused n values) e) rest in
+      rw (ne_eqb n 0 high) at sent
+
+-- whatever the writer's calls send, some calls of a host send
+pub sent_by_host : {st last : Option ℕ} {is : List Item} {bytes : List ℕ} → Sending st is bytes last → is_running st ≡ true
+    → HostSending (running_bytes st) is bytes (running_bytes last)
+sent_by_host g.no_call fine = no_call
+sent_by_host (g.one_call {st} {last} {is} {bytes} h out later answer met calls) fine =
+    let o = handed_out st h (length out) in
+    let next = state_behind st (item_handed h) in
+    let kept : is_running (state_kept (answered answer) st) ≡ true = (sending_is_chain (g.one_call {st = st} h out later answer met g.no_call) fine).1 in
+    let rest = sent_by_host calls kept in
+    subst (λ (a : Outcome Emitted). HostSending (running_bytes st) (items_accepted a h ++ is) (gone_out a later ++ bytes) (running_bytes last)) (sym met.answers)
+    (subst (λ (l : List ℕ). HostSending (running_bytes st) (items_accepted (emitted_of o next) h ++ is) (gone_out (emitted_of o next) l ++ bytes) (running_bytes last))
+    (sym met.leaves)
+    (host_call st fine h out is bytes (running_bytes last) o refl (handed_numbered st h (length out))
+    (subst (λ (a : Outcome Emitted). HostSending (running_bytes (state_kept a st)) is bytes (running_bytes last)) met.answers rest)))
+
+-- every list of messages in range can be sent by a host's calls
+pub every_list_is_sent_by_host : (is : List Item) → items_fit is ≡ true
+    → (bytes last : List ℕ) × HostSending (running_bytes None) is bytes last
+every_list_is_sent_by_host is fit =
+    let sent = every_list_is_sent None refl is fit in
+    (sent.0, running_bytes sent.1, sent_by_host sent.2 refl)
+
+-- READ-BACK for lists of entry points' calls: what dm_running_* sent, dm_feed reads back, from fourteen bytes 00
+pub same_messages_to_host : HostSameMessages (replicate 14 0)
+same_messages_to_host is bytes last calls =
+    let too = sent_by_writer calls None refl refl in
+    same_messages by_host (encoded fresh) (promises_by_host fresh).calls_mean is bytes too.0 too.1
+
+-- READ-BACK byte by byte
+pub reads_back_to_host : HostReadsBack (replicate 14 0)
+reads_back_to_host is bytes last calls =
+    let too = sent_by_writer calls None refl refl in
+    reads_back by_host (encoded fresh) (promises_by_host fresh).calls_mean is bytes too.0 too.1
+
+-- MINIMALITY: no list of dm_feed calls reads shorter bytes as the same messages
 pub no_shorter_to_host : HostNoShorter (replicate 14 0)
-no_shorter_to_host is bytes calls =
+no_shorter_to_host is bytes last calls =
     let too = sent_by_writer calls None refl refl in
     no_shorter_read by_host (encoded fresh) (promises_by_host fresh).calls_mean is bytes too.0 too.1

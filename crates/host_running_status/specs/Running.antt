@@ -7,7 +7,7 @@ use Rattle.wire.specs.declared.real_time.Realtime.{Realtime}
 use Rattle.running_status.specs.declared.Outgoing.{Outgoing}
 use Rattle.running_status.specs.declared.Outgoing.TheVariants as o
 use Rattle.running_status.specs.RunningStatus.{state_behind}
-use Rattle.running_status.specs.Sending.{Handed, plain, framed, item_handed, handed_out}
+use Rattle.running_status.specs.Sending.{Handed, plain, frame_bytes, item_handed, handed_out}
 use Rattle.running_status.specs.StateBytes.{running_bytes, says_running, running_of}
 use Rattle.host_answer.specs.declared.Answer.{Answer}
 use Rattle.host_answer.specs.Answer.{Sends}
@@ -33,7 +33,7 @@ plain_named None = None
 
 -- a frame's bytes are handed on as they are
 abbrev pub frame_named : List ℕ → Option Handed
-frame_named bytes = Some (framed bytes)
+frame_named bytes = Some (frame_bytes bytes)
 
 -- what the writer does with what it is handed; 255 where no record names the message
 abbrev pub host_out : Option ℕ → Option Handed → ℕ → Outcome (List ℕ)

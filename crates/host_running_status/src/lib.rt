@@ -13,7 +13,7 @@ ghost use Rattle.host_running_status.specs.Running.{channel_named, common_named,
 use host_answer::Answer;
 use refusal::Refusal;
 use running_status::Emitted;
-use running_status::bytes::{RUNNING_LEN, put_running, running_of};
+use running_status::bytes::{RUNNING_LEN, put_running, read_running};
 use wire::{Channel, ChannelMessage, CommonStatus, Realtime};
 
 // Writes the state none, with no running status. Refuses 20 for any other length than RUNNING_LEN.
@@ -39,7 +39,7 @@ pub fn dm_running_channel(
 ) -> Answer
     ensures { HandedSent (plain_named (channel_named (channel_kind nibble a b) channel)) result state.old state.new out.old out.new }
 {
-    let Some(running) = running_of(state) else {
+    let Some(running) = read_running(state) else {
         return Answer::from(Refusal::BadStore);
     };
     let Some(message) = ChannelMessage::from_nibble(nibble, a, b) else {
@@ -56,7 +56,7 @@ pub fn dm_running_channel(
 pub fn dm_running_common(state: &mut [u8], status: u8, value: u16, out: &mut [u8]) -> Answer
     ensures { HandedSent (plain_named (common_named (common_status status) value)) result state.old state.new out.old out.new }
 {
-    let Some(running) = running_of(state) else {
+    let Some(running) = read_running(state) else {
         return Answer::from(Refusal::BadStore);
     };
     let Some(kind) = CommonStatus::from_status(status) else {
@@ -72,7 +72,7 @@ pub fn dm_running_common(state: &mut [u8], status: u8, value: u16, out: &mut [u8
 pub fn dm_running_realtime(state: &mut [u8], byte: u8, out: &mut [u8]) -> Answer
     ensures { HandedSent (plain_named (realtime_named (realtime_of byte))) result state.old state.new out.old out.new }
 {
-    let Some(running) = running_of(state) else {
+    let Some(running) = read_running(state) else {
         return Answer::from(Refusal::BadStore);
     };
     let Some(message) = Realtime::from_status(byte) else {
@@ -88,7 +88,7 @@ pub fn dm_running_realtime(state: &mut [u8], byte: u8, out: &mut [u8]) -> Answer
 pub fn dm_running_frame(state: &mut [u8], frame: &[u8], out: &mut [u8]) -> Answer
     ensures { HandedSent (frame_named frame.now) result state.old state.new out.old out.new }
 {
-    let Some(running) = running_of(state) else {
+    let Some(running) = read_running(state) else {
         return Answer::from(Refusal::BadStore);
     };
     match running_status::write_frame(running, frame, out) {

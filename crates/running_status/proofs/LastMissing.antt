@@ -8,7 +8,7 @@ use Prim.Native.Nat.{ℕ, ◌+◌, ◌-◌, ◌*◌, ◌%◌, ◌/◌, ◌≤◌
 use native.Mathlib.Omega.{arith}
 use lib.Dec.{ltb, leb, eqb}
 use lib.ListN.{length, length-append}
-use borrow.Author.Tests.{ltb-true, eqb-true, leb-true, lt-ltb, le-ltb, eq-eqb, ne_eqb, le-leb}
+use borrow.Author.Tests.{eqb-true, leb-true, lt-ltb, le-ltb, eq-eqb, ne_eqb, le-leb}
 use Rattle.laws.specs.Choice.{pick}
 use Rattle.laws.proofs.Tests.{by_test, split, both, true_is_not_false}
 use Rattle.refusal.specs.Outcome.{gives}
@@ -35,10 +35,10 @@ use Rattle.damage.specs.Sent.{Message, Voice, Common, Frame, sendable, event_of}
 use Rattle.damage.proofs.Ahead.{next_status, next_data}
 use Rattle.damage.proofs.MessagesRead.{common_lengths}
 use Rattle.running_status.specs.RunningStatus.{shortened, running_after}
-use Rattle.running_status.proofs.Waiting.{left_over, channel_fits, voice_status, voice_in_force}
+use Rattle.running_status.proofs.Waiting.{left_over, channel_below, channel_fits, voice_status, voice_in_force}
 use Rattle.running_status.proofs.Missing.{missing_once, common_byte, common_size, missing, frame_length, common_is_one_more, once_at_most}
 
--- two lists of reports that differ
+-- whatever is said where 0 is 1
 pub apart : {P : Type 0} → ◌≡◌ {A = ℕ} 0 1 → P
 apart z = absurd (omega arith)
 
@@ -125,16 +125,13 @@ abbrev pub Settled : Option ℕ → ℕ → List ℕ → Type 0
 Settled st v xs = (m : Message) → sendable m ≡ true → missing v xs m ≡ length (shortened st m)
 
 -- a system common message has a status byte beyond EF, which takes its data, and it is no frame's
-common_status : (m : SystemCommon) → (0xF0 < common_byte m) × (data_length (common_byte m) ≡ common_size m)
-common_status (y.TimeCodeQuarterFrame a) = (omega arith, common_lengths.0)
-common_status (y.SongPosition a) = (omega arith, common_lengths.1)
-common_status (y.SongSelect a) = (omega arith, common_lengths.2)
-common_status y.TuneRequest = (omega arith, none_above 0xF6 (omega arith))
+common_takes : (m : SystemCommon) → (0xF0 < common_byte m) × (data_length (common_byte m) ≡ common_size m)
+common_takes (y.TimeCodeQuarterFrame a) = (omega arith, common_lengths.0)
+common_takes (y.SongPosition a) = (omega arith, common_lengths.1)
+common_takes (y.SongSelect a) = (omega arith, common_lengths.2)
+common_takes y.TuneRequest = (omega arith, none_above 0xF6 (omega arith))
 
--- a channel status is below F0, and what is not below it is none
-channel_below : (v : ℕ) → is_channel_status v ≡ true → v < 0xF0
-channel_below v in-force = ltb-true v 0xF0 (both (leb 0x80 v) (ltb v 0xF0) in-force).1
-
+-- from F0 on there is no channel status
 not_channel : (v : ℕ) → 0xF0 ≤ v → is_channel_status v ≡ false
 not_channel v h = rw (le-leb 0x80 v (omega arith), le-ltb v 0xF0 h)
 
@@ -144,7 +141,7 @@ settled_without v xs plain start full (Voice c m) ok = rw (ne_eqb v (status_nibb
   where
     other : v ≡ status_nibble m + c.0 → ⊥
     other e = true_is_not_false (sym (voice_in_force c m (channel_fits c m ok)) ∙ ap is_channel_status (sym e) ∙ plain)
-settled_without v xs plain start full (Common m) ok = served (common_byte m) (common_status m).1 ∙ sym (common_is_one_more m)
+settled_without v xs plain start full (Common m) ok = served (common_byte m) (common_takes m).1 ∙ sym (common_is_one_more m)
   where
     served : (f : ℕ) → data_length f ≡ common_size m → missing_once (eqb v f) (common_size m) (length xs) ≡ 1 + common_size m
     served f takes =
@@ -166,7 +163,7 @@ settled_running v xs in-force none (Voice c m) ok =
     (λ (e : eqb v (status_nibble m + c.0) ≡ false). rw e (omega arith))
 settled_running v xs in-force none (Common m) ok =
     let below = channel_below v in-force in
-    let above = (common_status m).0 in
+    let above = (common_takes m).0 in
     rw (ne_eqb v (common_byte m) (λ e. omega arith)) (sym (common_is_one_more m))
 settled_running v xs in-force none (Frame ys) ok = let below = channel_below v in-force in rw (ne_eqb v 0xF0 (λ e. omega arith)) (sym (frame_length ys))
 
@@ -205,7 +202,7 @@ module _ (v : ℕ) (xs : List ℕ) (b : ℕ) (end : ends_message v (data_length 
   -- as many data bytes have come as a system common status takes
   ends_common : (m : SystemCommon) → v ≡ common_byte m → LastMissing k.Data v xs b (Common m)
   ends_common m e =
-      let status = common_status m in
+      let status = common_takes m in
       let above : 0xF0 < v = omega (arith, e, status.0) in
       let plain : is_channel_status v ≡ false = not_channel v (omega arith) in
       let takes : data_length v ≡ common_size m = ap data_length e ∙ status.1 in

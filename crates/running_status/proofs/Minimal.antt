@@ -40,7 +40,7 @@ use Rattle.damage.proofs.Ahead.{next_status, next_data, status_and_data_after, m
 use Rattle.damage.proofs.ByValue.{promises_by_value}
 use Rattle.damage.proofs.Condition3InPlace.{promises_in_place}
 use Rattle.running_status.specs.RunningStatus.{Item, OfMessage, OfRealtime, shortened, running_after}
-use Rattle.running_status.specs.Chain.{items_fit, chain, item_reports, in_order}
+use Rattle.running_status.specs.Chain.{items_fit, chain, item_reports, reports_joined}
 use Rattle.running_status.specs.ReadBack.{NoShorter}
 use Rattle.running_status.proofs.Sends.{sending_is_chain}
 use Rattle.running_status.proofs.Missing.{missing, one_byte_brings_one}
@@ -181,7 +181,7 @@ module _ (c : Class) (v : ℕ) (xs : List ℕ) (b : ℕ) (range : Range c b) (re
   one_more h e (says_18 more) (OfRealtime x ∷ is) ok says = let z : ◌≡◌ {A = Reported} report18 (gives (realtime x)) = cc in apart cc
 
 -- any bytes that read, behind a history, as exactly these messages are at least as many as are missing
-as_many_as_missing : (u past : List ℕ) (is : List Item) → items_fit is ≡ true → in_order (meaning past u) ≡ item_reports is
+as_many_as_missing : (u past : List ℕ) (is : List Item) → items_fit is ≡ true → reports_joined (meaning past u) ≡ item_reports is
     → all_missing (last_status past) (data_since past) is ≤ length u
 unfolding meaning heard
 as_many_as_missing [] past [] ok says = omega arith
@@ -192,30 +192,31 @@ as_many_as_missing (b ∷ bs) past is ok says =
     let v = last_status past in
     let xs = data_since past in
     let same = status_and_data_after c past b (range_of b) in
-    let next : (js : List Item) → items_fit js ≡ true → in_order (meaning (b ∷ past) bs) ≡ item_reports js
+    let next : (js : List Item) → items_fit js ≡ true → reports_joined (meaning (b ∷ past) bs) ≡ item_reports js
     → all_missing (next_status c v b) (next_data c xs b) js ≤ length bs =
     λ js fit e. subst (λ (w : ℕ). all_missing w (next_data c xs b) js ≤ length bs) same.0
     (subst (λ (ws : List ℕ). all_missing (last_status (b ∷ past)) ws js ≤ length bs) same.1 (as_many_as_missing bs (b ∷ past) js fit e)) in
     omega
-    (arith, one_more c v xs b (range_of b) (in_order (meaning (b ∷ past) bs)) (length bs) next (heard_in c v xs b) refl (byte_says c v xs b) is ok says)
+    (arith, one_more c v xs b (range_of b) (reports_joined (meaning (b ∷ past) bs)) (length bs) next (heard_in c v xs b) refl (byte_says c v xs b) is ok says)
 
 -- nothing has come yet
 nothing_yet : Settled None 0 []
 nothing_yet = settled_without 0 [] refl (λ e. omega arith) (omega (arith, none_of_data 0 (omega arith)))
 
 -- MINIMALITY: every byte string that history reads as exactly these messages is at least as long as what the writer writes of them from the state none
-pub no_shorter : (is : List Item) → items_fit is ≡ true → (u : List ℕ) → in_order (meaning [] u) ≡ item_reports is → length (chain None is) ≤ length u
+pub no_shorter : (is : List Item) → items_fit is ≡ true → (u : List ℕ) → reports_joined (meaning [] u) ≡ item_reports is → length (chain None is) ≤ length u
 no_shorter is ok u says = omega (arith, missing_is_written None 0 [] is ok nothing_yet, as_many_as_missing u [] is ok says)
 
--- the same of every caller whose calls report what history says, since history of the bytes used is the first part of history of them all
+-- MINIMALITY of every caller whose calls report what history says, since history of the bytes used is the first part of history of them all
 pub no_shorter_read : (c : Caller) (start : c.State) → CallsMean c start → NoShorter c start
 no_shorter_read c start mean is bytes last calls ok store room any cs log made says =
     let n = total_used log.answers in
     let same = (mean store room any cs log made).0 ∙ sym (meaning_take [] any n) in
     let sent : length bytes ≡ length (chain None is) = ap length (sending_is_chain calls refl).0 in
-    omega (arith, no_shorter is ok (take n any) (ap in_order (sym same) ∙ says), length-take n any, sent)
+    let least = no_shorter is ok (take n any) (ap reports_joined (sym same) ∙ says) in
+    (omega (arith, least, length-take n any, sent), omega (arith, least, length-take n any, sent))
 
--- the same of the code's own calls, from every state that a reset leaves
+-- MINIMALITY of the code's own calls, by value and in place, from every state that a reset leaves
 pub no_shorter_by_value : (d : Decoder) → NoShorter by_value (reset d)
 no_shorter_by_value d = no_shorter_read by_value (reset d) (promises_by_value d).calls_mean
 

@@ -6,7 +6,7 @@ use mathlib.Core.List.{List, [], ◌∷◌, ◌++◌}
 use Prim.Native.Nat.{ℕ, ◌+◌, ◌-◌, ◌%◌, ◌≤◌, ◌<◌}
 use native.Mathlib.Omega.{arith}
 use lib.Dec.{ltb, leb, eqb}
-use lib.ListN.{length, get_or, length-append}
+use lib.ListN.{length, length-append}
 use borrow.Author.Tests.{ltb-true, ltb-false, le-ltb}
 use Rattle.laws.specs.Choice.{pick}
 use Rattle.laws.proofs.Tests.{by_test, split}
@@ -18,18 +18,20 @@ use Rattle.decoder.specs.declared.Class.{Class}
 use Rattle.decoder.specs.declared.Class.TheVariants as k
 use Rattle.damage.specs.Sent.{Message, Voice, Common, Frame, bytes_of}
 use Rattle.damage.proofs.Ahead.{next_status, next_data}
+use Rattle.damage.proofs.MessagesRead.{end_status, end_data}
 use Rattle.running_status.proofs.Waiting.{left_over}
 
 -- of a status that serves once, with n data bytes of which k are there: the rest, and all again where none is left to come
 abbrev pub missing_once : Bool → ℕ → ℕ → ℕ
 missing_once here n k = pick (here && ltb k n) (n - k) (1 + n)
 
--- a system common message's status byte, and how many data bytes it has
+-- a system common message's status byte
 abbrev pub common_byte : SystemCommon → ℕ
-common_byte m = get_or (common_bytes m) 0 0
+common_byte m = end_status (Common m)
 
+-- how many data bytes a system common message has
 abbrev pub common_size : SystemCommon → ℕ
-common_size m = length (common_bytes m) - 1
+common_size m = length (end_data (Common m))
 
 -- how many bytes are missing of a message behind the last status byte v and the data bytes xs since
 abbrev pub missing : ℕ → List ℕ → Message → ℕ
@@ -49,7 +51,7 @@ common_is_one_more (y.SongPosition a) = refl
 common_is_one_more (y.SongSelect a) = refl
 common_is_one_more y.TuneRequest = refl
 
--- a status that serves once lacks at most its whole message, and just that with no data byte behind it
+-- of a status that serves once at most the whole message is lacking, and all its data bytes where none has come
 pub once_at_most : (here : Bool) (n k : ℕ) → missing_once here n k ≤ 1 + n
 once_at_most here n k = by_test (λ (z : ℕ). z ≤ 1 + n) (here && ltb k n) _ _ (λ e. omega arith) (λ e. omega arith)
 

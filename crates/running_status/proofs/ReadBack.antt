@@ -7,6 +7,7 @@ use mathlib.Core.List.{List, [], ◌∷◌, ◌++◌, append_assoc, append-nil}
 use Prim.Native.Nat.{ℕ, zero, suc, ◌≤◌}
 use native.Mathlib.Omega.{arith}
 use lib.ListN.{length, drop, replicate}
+use lib.Seq.{take_all}
 use Rattle.std.proofs.lemmas.List.{map-append}
 use Rattle.laws.specs.Choice.{pick}
 use Rattle.laws.proofs.Tests.{true_is_not_false, both, and_true}
@@ -22,19 +23,21 @@ use Rattle.damage.specs.Reported.{Reported}
 use Rattle.damage.specs.History.{meaning}
 use Rattle.damage.specs.Sent.{Message, Voice, Common, Frame, bytes_of, sendable, all_sendable, event_of}
 use Rattle.damage.specs.Sent.{Tag, tags, tagged, realtime_tag, Sent, nothing, own, between, bytes, intacts}
-use Rattle.damage.specs.Caller.{Caller, belonging, Exactly}
+use Rattle.damage.specs.Caller.{Caller, belonging, total_used, Exactly}
 use Rattle.damage.specs.Calls.{by_value}
 use Rattle.damage.specs.InPlaceCalls.{in_place}
 use Rattle.damage.specs.Meaning.{CallsMean}
+use Rattle.damage.proofs.Condition3.{meaning_length}
 use Rattle.damage.proofs.Woven.{woven}
 use Rattle.damage.proofs.WritersRead.{bytes_of_tags, realtime_from_f8}
 use Rattle.damage.proofs.ByValue.{promises_by_value}
 use Rattle.damage.proofs.Condition3InPlace.{promises_in_place}
 use Rattle.running_status.specs.RunningStatus.{Item, OfMessage, OfRealtime, omits, running_after, item_bytes, state_behind}
-use Rattle.running_status.specs.Chain.{items_fit, chain, item_report, item_reports, in_order, chain_reports}
+use Rattle.running_status.specs.Chain.{items_fit, chain, item_report, item_reports, reports_joined, chain_reports}
+use Rattle.running_status.specs.Sending.{Sending}
 use Rattle.running_status.specs.Stream.{Stream}
 use Rattle.running_status.specs.Stream as z
-use Rattle.running_status.specs.ReadBack.{ReadsBack}
+use Rattle.running_status.specs.ReadBack.{SameMessages, ReadsBack}
 use Rattle.running_status.proofs.StreamRead.{stream_reads}
 use Rattle.running_status.proofs.Sends.{sending_is_chain}
 
@@ -147,22 +150,22 @@ reads_back_singly is ok =
     ap (meaning []) (sym (chain_bytes None is)) ∙ woven (chain_sent None is) [] (stream_reads (chain_stream None is) (fit_messages is ok) 0 [] refl tt)
     ∙ tags_are_reports None is
 
-in_order_append : (xs ys : List (List Reported)) → in_order (xs ++ ys) ≡ in_order xs ++ in_order ys
+in_order_append : (xs ys : List (List Reported)) → reports_joined (xs ++ ys) ≡ reports_joined xs ++ reports_joined ys
 in_order_append [] ys = refl
-in_order_append (x ∷ xs) ys = ap (λ (l : List Reported). x ++ l) (in_order_append xs ys) ∙ sym (append_assoc x (in_order xs) (in_order ys))
+in_order_append (x ∷ xs) ys = ap (λ (l : List Reported). x ++ l) (in_order_append xs ys) ∙ sym (append_assoc x (reports_joined xs) (reports_joined ys))
 
--- whichever byte they belong to
-belonging_in_order : (n : ℕ) (xs : List Reported) → in_order (belonging n xs) ≡ xs
+-- reports that belong to a byte, in order
+belonging_in_order : (n : ℕ) (xs : List Reported) → reports_joined (belonging n xs) ≡ xs
 belonging_in_order zero [] = refl
 belonging_in_order zero (x ∷ xs) = append-nil (x ∷ xs)
 belonging_in_order (suc n) xs = silent n
   where
-    silent : (k : ℕ) → in_order (replicate k [] ++ (xs ∷ [])) ≡ xs
+    silent : (k : ℕ) → reports_joined (replicate k [] ++ (xs ∷ [])) ≡ xs
     silent zero = append-nil xs
     silent (suc k) = silent k
 
 -- what has to be reported byte by byte is, in order, one report for each message
-pub told_in_order : (st : Option ℕ) (is : List Item) → in_order (chain_reports st is) ≡ item_reports is
+pub told_in_order : (st : Option ℕ) (is : List Item) → reports_joined (chain_reports st is) ≡ item_reports is
 unfolding chain_reports
 told_in_order st [] = refl
 told_in_order st (i ∷ is) =
@@ -175,9 +178,28 @@ reads_back c start mean is written last calls fit store room cs log made =
     subst (λ (l : List (List Reported)). Exactly cs l log) (ap (meaning []) (sending_is_chain calls refl).0 ∙ reads_back_singly is fit)
     (mean store room written cs log made)
 
--- READ-BACK of the code's own calls, from every state that a reset leaves
+-- each byte that was sent has its reports
+every_byte : (is : List Item) → items_fit is ≡ true → (bytes : List ℕ) (last : Option ℕ) → Sending None is bytes last
+    → length (chain_reports None is) ≡ length bytes
+every_byte is fit bytes last calls =
+    ap length (sym (reads_back_singly is fit)) ∙ meaning_length [] (chain None is) ∙ ap length (sym (sending_is_chain calls refl).0)
+
+-- READ-BACK to the end: the reports are the messages
+pub same_messages : (c : Caller) (start : c.State) → CallsMean c start → SameMessages c start
+same_messages c start mean is written last calls fit store room cs log made all =
+    let told = (reads_back c start mean is written last calls fit store room cs log made).0 in
+    let long : length (chain_reports None is) ≤ total_used log.answers = omega (arith, all, every_byte is fit written last calls) in
+    ap reports_joined (told ∙ take_all (total_used log.answers) (chain_reports None is) long) ∙ told_in_order None is
+
+-- READ-BACK of the code's own calls, by value and in place, from every state that a reset leaves
 pub reads_back_by_value : (d : Decoder) → ReadsBack by_value (reset d)
 reads_back_by_value d = reads_back by_value (reset d) (promises_by_value d).calls_mean
 
 pub reads_back_in_place : (d : Decoder) → ReadsBack in_place (reset d)
 reads_back_in_place d = reads_back in_place (reset d) (promises_in_place d).calls_mean
+
+pub same_messages_by_value : (d : Decoder) → SameMessages by_value (reset d)
+same_messages_by_value d = same_messages by_value (reset d) (promises_by_value d).calls_mean
+
+pub same_messages_in_place : (d : Decoder) → SameMessages in_place (reset d)
+same_messages_in_place d = same_messages in_place (reset d) (promises_in_place d).calls_mean

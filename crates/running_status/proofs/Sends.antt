@@ -21,8 +21,7 @@ use Rattle.running_status.specs.declared.Outgoing.TheVariants as o
 use Rattle.running_status.specs.declared.Emitted.{Emitted}
 use Rattle.running_status.specs.RunningStatus.{is_running, shortened, Item, item_bytes, state_behind, item_of, when_item, when_frame}
 use Rattle.running_status.specs.Chain.{chain, chain_state}
-use Rattle.running_status.specs.Sending.{Handed, plain, item_handed, handed_out, state_kept, gone_out, items_accepted, Sending, no_call, one_call}
-use Rattle.running_status.specs.Sending as g
+use Rattle.running_status.specs.Sending.{Handed, plain, frame_bytes, item_handed, handed_out, state_kept, gone_out, items_accepted, Sending, no_call, one_call}
 use Rattle.running_status.proofs.Waiting.{voice_in_force}
 
 -- what fitted was given
@@ -51,7 +50,7 @@ accepted_writes st (plain m) room w fine e =
     let bytes = item_bytes st (item_of m) in
     let r = item_passed st m (with_room room bytes) w fine (passed_on (is_running st) 20 [] (when_item m (with_room room bytes)) w e) in
     (fitted room bytes w r.0, r.1)
-accepted_writes st (g.framed bs) room w fine e =
+accepted_writes st (frame_bytes bs) room w fine e =
     let short = unless (leb (length bs) limit) 19 (limit ∷ []) (with_room room bs) in
     let low = when_seven_bit (body bs) short in
     let e1 = passed_on (is_running st) 20 [] (when_frame bs (with_room room bs)) w e in

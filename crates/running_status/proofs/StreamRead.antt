@@ -6,9 +6,9 @@ use mathlib.Core.Bool.{true, false}
 use mathlib.Core.List.{List, [], ◌∷◌, ◌++◌, append_assoc}
 use Prim.Native.Nat.{ℕ, ◌+◌, ◌%◌, ◌/◌, ◌<◌}
 use native.Mathlib.Omega.{arith}
-use lib.Dec.{ltb, leb}
+use lib.Dec.{leb}
 use lib.ListN.{length, get_or, drop, length-append}
-use borrow.Author.Tests.{ltb-true, leb-false, eqb-true, eq-eqb, ne_eqb}
+use borrow.Author.Tests.{leb-false, eqb-true, eq-eqb, ne_eqb}
 use Rattle.laws.proofs.Tests.{by_test, split, true_is_not_false, both}
 use Rattle.refusal.specs.Outcome.{gives}
 use Rattle.wire.specs.Status.{data_length, is_channel_status}
@@ -26,7 +26,7 @@ use Rattle.damage.proofs.Matches.{last_is}
 use Rattle.damage.proofs.MessagesRead.{Reads, reads_as, Known, voice, end_status, end_data, message_reads, closed_behind}
 use Rattle.running_status.specs.RunningStatus.{omits, running_after}
 use Rattle.running_status.specs.Stream.{Stream, nothing, whole, bare}
-use Rattle.running_status.proofs.Waiting.{left_over, channel_fits, voice_status, voice_in_force}
+use Rattle.running_status.proofs.Waiting.{left_over, channel_below, channel_fits, voice_status, voice_in_force}
 
 -- the last status byte v is the sender's running status, and of the data bytes xs since none waits
 abbrev pub Agrees : Option ℕ → ℕ → List ℕ → Type 0
@@ -54,7 +54,7 @@ agrees_behind (Frame xs) ok = tt
 -- data bytes under a channel status byte, where none waits
 module _ (v : ℕ) (xs : List ℕ) (rest : List Tag) (in_force : is_channel_status v ≡ true) where
   no_frame : v ≡ 0xF0 → ⊥
-  no_frame q = let small : v < 0xF0 = ltb-true v 0xF0 (both (leb 0x80 v) (ltb v 0xF0) in_force).1 in omega arith
+  no_frame q = let small = channel_below v in_force in omega arith
 
   bare_one : (a : ℕ) (e : Event) → data_length v ≡ 1 → a < 0x80 → message v a 0 ≡ gives e ∷ [] → Reads v (xs ++ (a ∷ [])) rest
       → Reads v xs (tags false e (a ∷ []) ++ rest)
@@ -123,7 +123,7 @@ bare_read (Some b) (Voice c m) om ok v xs ts a after =
 bare_read (Some b) (Common m) om ok v xs ts a after = absurd (true_is_not_false (sym om))
 bare_read (Some b) (Frame ys) om ok v xs ts a after = absurd (true_is_not_false (sym om))
 
--- a stream is read whole from wherever no frame is open and the last status byte is the sender's running status
+-- a stream is read whole from wherever no frame is open, the last status byte is the sender's running status, where it has one, and no data byte waits
 pub stream_reads : {st : Option ℕ} {ms : List Message} {ts : List Tag} → Stream st ms ts → all_sendable ms ≡ true → (v : ℕ) (xs : List ℕ)
     → is_open v xs ≡ false → Agrees st v xs → Reads v xs ts
 stream_reads nothing ok v xs closed a = tt

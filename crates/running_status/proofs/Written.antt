@@ -20,8 +20,7 @@ use Rattle.damage.specs.Sent.{Voice, Common, Frame, bytes_of, seven_bit, sendabl
 use Rattle.running_status.specs.declared.Outgoing.TheVariants as o
 use Rattle.running_status.specs.RunningStatus.{is_running, shortened, Item, OfMessage, OfRealtime, state_behind}
 use Rattle.running_status.specs.Chain.{items_fit}
-use Rattle.running_status.specs.Sending.{Handed, plain, item_handed, handed_out, Sending, no_call, one_call}
-use Rattle.running_status.specs.Sending as g
+use Rattle.running_status.specs.Sending.{Handed, plain, frame_bytes, item_handed, handed_out, Sending, no_call, one_call}
 use Rattle.running_status.proofs.Waiting.{channel_fits}
 use Rattle.running_status.proofs.Sends.{accepted_writes}
 
@@ -69,7 +68,7 @@ call_for st fine (OfMessage (Frame xs)) ok =
     let each = both _ _ (both _ _ ok).0 in
     let bytes = bytes_of (Frame xs) in
     record {
-      handed = g.framed bytes;
+      handed = frame_bytes bytes;
       bytes = bytes;
       is = ap (λ (l : List ℕ). OfMessage (Frame l)) (body_is xs);
       given = rw (fine, ends_framed xs, body_is xs, seven_bit_is_low xs each.0, each.1) (just_room bytes);

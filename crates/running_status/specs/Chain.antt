@@ -33,9 +33,9 @@ abbrev pub item_reports : List Item → List Reported
 item_reports is = map item_report is
 
 -- reports in order, whichever byte gave them
-abbrev pub in_order : List (List Reported) → List Reported
-in_order [] = []
-in_order (x ∷ xs) = x ++ in_order xs
+abbrev pub reports_joined : List (List Reported) → List Reported
+reports_joined [] = []
+reports_joined (x ∷ xs) = x ++ reports_joined xs
 
 -- what the bytes written of these messages have to report, byte by byte: the last byte of each message that message, and no other byte anything
 unfoldable pub chain_reports : Option ℕ → List Item → List (List Reported)

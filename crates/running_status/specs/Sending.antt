@@ -11,17 +11,17 @@ use Rattle.running_status.specs.RunningStatus.{Item, OfMessage, item_of, state_b
 -- what a call is handed: a message that is no frame, or a frame's bytes
 pub data Handed : Type 0 where
   plain : Outgoing → Handed
-  framed : List ℕ → Handed
+  frame_bytes : List ℕ → Handed
 
 -- the message that it is
 abbrev pub item_handed : Handed → Item
 item_handed (plain m) = item_of m
-item_handed (framed bytes) = OfMessage (Frame (body bytes))
+item_handed (frame_bytes bytes) = OfMessage (Frame (body bytes))
 
 -- what the call comes to
 abbrev pub handed_out : Option ℕ → Handed → ℕ → Outcome (List ℕ)
 handed_out st (plain m) room = message_out st m room
-handed_out st (framed bytes) room = frame_out st bytes room
+handed_out st (frame_bytes bytes) room = frame_out st bytes room
 
 -- the state for the next call: "the state is kept" where this one is refused
 abbrev pub state_kept : Outcome Emitted → Option ℕ → Option ℕ

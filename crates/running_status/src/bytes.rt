@@ -5,8 +5,8 @@ ghost use Rattle.running_status.specs.StateBytes.{running_bytes, says_running, r
 
 pub const RUNNING_LEN: usize = 2;
 
-// The state that the bytes say; none for bytes that are no state's, and for another length.
-pub fn running_of(bytes: &[u8]) -> Option<Option<u8>>
+// The state that the bytes say, where they are a state's; bytes of another length are none.
+pub fn read_running(bytes: &[u8]) -> Option<Option<u8>>
     ensures { result ≡ pick (says_running bytes.now) (Some (running_of bytes.now)) None }
 {
     match bytes.as_array::<RUNNING_LEN>() {
