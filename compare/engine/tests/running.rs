@@ -2,7 +2,7 @@
 //! stream, and single calls beside a model.
 
 use engine::bench::Engine;
-use engine::ffi::{self, RUNNING_LEN};
+use engine::ffi::{self, Answer, NO_RECORD, RUNNING_LEN};
 use engine::running::write;
 use words::{hex, parse, Bench, Message, Request};
 
@@ -14,7 +14,9 @@ mod model;
 mod shortest;
 
 /// The frame limit.
-const LIMIT: usize = 2354;
+fn limit() -> usize {
+    ffi::capacity() as usize
+}
 
 /// Numbers that look random and are the same in every run.
 struct Numbers(u64);
@@ -49,7 +51,7 @@ impl Numbers {
 fn written(chain: &[Message]) -> (Vec<u8>, [u8; RUNNING_LEN]) {
     let mut state = [0xAA; RUNNING_LEN];
     assert_eq!(ffi::running_fresh(&mut state).number, 0);
-    let (mut bytes, mut out) = (Vec::new(), [0; LIMIT]);
+    let (mut bytes, mut out) = (Vec::new(), vec![0; limit()]);
     for message in chain {
         let answer = write(&mut state, message, &mut out);
         assert_eq!(answer.number, 0, "{message}");
@@ -139,15 +141,42 @@ fn chosen_refusals() {
     }
 }
 
-/// A call that is refused does not move the state on.
+/// Calls that are refused: the state, the message, the bytes of room, and the number with its first two details.
+const KEPT: [(&[u8], &str, usize, [u64; 3]); 22] = [
+    (&[1, 0x90], "ch 192 16 5 0", 4, [17, 16, 0]),
+    (&[1, 0x90], "common 241 128", 4, [21, 128, 0]),
+    (&[1, 0x90], "common 242 16384", 4, [21, 16_384, 0]),
+    (&[1, 0x90], "common 243 128", 4, [21, 128, 0]),
+    (&[1, 0x90], "frame f0", 4, [1, 0, 0]),
+    (&[1, 0x90], "frame f0f8f7", 4, [2, 0xF8, 0]),
+    (&[1, 0x90], "frame f0.00*2353.f7", 2_400, [19, 2_354, 0]),
+    // one byte of room too few; the status byte of the first is left out
+    (&[1, 0x90], "ch 144 0 60 64", 1, [14, 2, 1]),
+    (&[1, 0x90], "ch 192 0 5 0", 1, [14, 2, 1]),
+    (&[0, 0], "ch 144 0 60 64", 2, [14, 3, 2]),
+    (&[1, 0x90], "common 241 5", 1, [14, 2, 1]),
+    (&[1, 0x90], "common 242 5", 2, [14, 3, 2]),
+    (&[1, 0x90], "common 246 0", 0, [14, 1, 0]),
+    (&[1, 0x90], "frame f001f7", 2, [14, 3, 2]),
+    (&[1, 0x90], "rt 248", 0, [14, 1, 0]),
+    // bytes that are no state
+    (&[1, 0xF0], "ch 144 0 60 64", 4, [20, 0, 0]),
+    (&[0, 0x90], "common 246 0", 4, [20, 0, 0]),
+    (&[2, 0x90], "rt 248", 4, [20, 0, 0]),
+    (&[1, 0x90, 0], "frame f001f7", 4, [20, 0, 0]),
+    // kinds that no record names
+    (&[1, 0x90], "ch 145 0 60 64", 4, [NO_RECORD, 0, 0]),
+    (&[1, 0x90], "common 244 0", 4, [NO_RECORD, 0, 0]),
+    (&[1, 0x90], "rt 249", 4, [NO_RECORD, 0, 0]),
+];
+
+/// A call that is refused leaves the state and every byte of the room.
 #[test]
 fn a_refusal_keeps_the_state() {
-    let mut state = [1, 0x90];
-    let answer = write(&mut state, &message("ch 192 0 5 0"), &mut []);
-    assert_eq!((answer.number, answer.value, answer.details), (14, 0, [2, 0, 0, 0]));
-    assert_eq!(state, [1, 0x90]);
-    for text in ["common 246 0", "frame f0f7", "common 241 128", "frame f0", "ch 192 16 0 0", "rt 249", "rt 248"] {
-        assert_ne!(write(&mut state, &message(text), &mut []).number, 0, "{text}");
-        assert_eq!(state, [1, 0x90], "{text}");
+    for (state, text, room, [number, first, second]) in KEPT {
+        let (mut behind, mut out) = (state.to_vec(), vec![0x55; room]);
+        let answer = write(&mut behind, &message(text), &mut out);
+        assert_eq!(answer, Answer { number, value: 0, details: [first, second, 0, 0] }, "{text}");
+        assert_eq!((&behind[..], out), (state, vec![0x55; room]), "{text}");
     }
 }

@@ -1,6 +1,6 @@
 //! Random chains with refused calls among them, read back through the decoder in random pieces.
 
-use super::{read, write, Message, Numbers, LIMIT, RUNNING_LEN};
+use super::{limit, read, write, Message, Numbers, RUNNING_LEN};
 use engine::ffi::{self, Answer};
 
 /// What was written so far, and what it has to be read as.
@@ -19,7 +19,7 @@ fn in_range(numbers: &mut Numbers, statuses: &[u8]) -> Message {
             status => Message::Common { status, value: numbers.below(128) as u16 },
         },
         3 => {
-            let length = if numbers.below(60) == 0 { LIMIT - 2 - numbers.below(2) } else { numbers.below(10) };
+            let length = if numbers.below(60) == 0 { limit() - 2 - numbers.below(2) } else { numbers.below(10) };
             Message::Frame(numbers.frame(length))
         }
         kind => {
@@ -43,7 +43,7 @@ fn refused(numbers: &mut Numbers) -> (Message, u64) {
             frame[place] = numbers.one(&[0x80, 0x90, 0xF0, 0xF7, 0xF8, 0xFF]);
             (Message::Frame(frame), 2)
         }
-        4 => (Message::Frame(numbers.frame(LIMIT - 1)), 19),
+        4 => (Message::Frame(numbers.frame(limit() - 1)), 19),
         5 => (Message::Frame(frame[1..].to_vec()), 1),
         6 => (Message::Realtime(numbers.one(&[0, 0x90, 0xF0, 0xF6, 0xF9, 0xFD])), ffi::NO_RECORD),
         _ => (Message::Channel { nibble: numbers.one(&[0, 0x70, 0x91, 0xEF, 0xF0]), channel: 0, a: 0, b: 0 }, ffi::NO_RECORD),

@@ -3,7 +3,7 @@
 use engine::ffi::{self, Answer, NO_RECORD};
 use words::Message;
 
-use super::{write, Numbers, LIMIT};
+use super::{limit, write, Numbers};
 
 fn refused(number: u64, details: &[u64]) -> Answer {
     let mut answer = Answer { number, value: 0, details: [0; 4] };
@@ -48,7 +48,7 @@ fn whole(message: &Message) -> Result<Vec<u8>, Answer> {
             };
             match inside.iter().find(|byte| **byte > 127) {
                 Some(byte) => Err(refused(2, &[u64::from(*byte)])),
-                None if bytes.len() > LIMIT => Err(refused(19, &[LIMIT as u64])),
+                None if bytes.len() > limit() => Err(refused(19, &[limit() as u64])),
                 None => Ok(bytes.clone()),
             }
         }
@@ -109,7 +109,7 @@ fn near(numbers: &mut Numbers, limits: &[u16]) -> u16 {
 
 /// F0, bytes and F7, often with one byte altered, now and then of a length about the limit.
 fn frame(numbers: &mut Numbers) -> Vec<u8> {
-    let data = if numbers.below(40) == 0 { LIMIT - 4 + numbers.below(5) } else { numbers.below(9) };
+    let data = if numbers.below(40) == 0 { limit() - 4 + numbers.below(5) } else { numbers.below(9) };
     let mut bytes = numbers.frame(data);
     if numbers.below(3) == 0 {
         let place = numbers.one(&[0, 1, bytes.len() / 2, bytes.len() - 2, bytes.len() - 1]);
@@ -204,15 +204,16 @@ fn every_pair_of_status_bytes_answers_as_the_model() {
 /// The state none is written over any two bytes, and nothing over any other length.
 #[test]
 fn fresh_takes_any_two_bytes() {
+    for pair in 0..=u16::MAX {
+        let mut state = pair.to_be_bytes();
+        let answer = ffi::running_fresh(&mut state);
+        assert_eq!((answer, state), (Answer { number: 0, value: 2, details: [0; 4] }, [0; 2]), "{pair:04x}");
+    }
     for byte in 0..=255 {
-        for length in 0..20 {
+        for length in (0..20).filter(|length| *length != 2) {
             let mut state = vec![byte; length];
             let answer = ffi::running_fresh(&mut state);
-            if length == 2 {
-                assert_eq!((answer, state), (Answer { number: 0, value: 2, details: [0; 4] }, vec![0; 2]));
-            } else {
-                assert_eq!((answer, state), (refused(20, &[]), vec![byte; length]));
-            }
+            assert_eq!((answer, state), (refused(20, &[]), vec![byte; length]));
         }
     }
 }
