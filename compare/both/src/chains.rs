@@ -1,6 +1,7 @@
 //! Chains of messages through the writer that leaves out status bytes, read by the original's decoder and by the engine's.
 
 use engine::ffi::{self, RUNNING_LEN};
+use origin::wire::MAX_SYSEX_LEN;
 use words::{short_hex, Answer, Bench, Message, Request};
 
 use crate::random::Numbers;
@@ -10,14 +11,11 @@ use crate::Size;
 /// A writer: the state behind what it wrote, the message, and room for it.
 pub type Writer = fn(&mut [u8], &Message, &mut [u8]) -> ffi::Answer;
 
-/// The longest frame of a chain.
-const LIMIT: usize = 2354;
-
 /// How much was written of the chains that were read alike.
 #[derive(Debug, Clone, Copy, Default)]
 pub struct Written {
     pub messages: u64,
-    /// Bytes with every status byte, as the original's own writers have them.
+    /// Bytes with every status byte: those that the original's writer gives for channel messages, and the other messages' own bytes, counted.
     pub plain: u64,
     /// Bytes of the engine's writer.
     pub shortened: u64,
@@ -45,7 +43,7 @@ fn message(random: &mut Numbers, statuses: &[u8]) -> Message {
             status => Message::Common { status, value: random.data_byte().into() },
         },
         4 => {
-            let data = if random.below(1_000) == 0 { LIMIT - 2 - random.below(3) } else { random.below(12) };
+            let data = if random.below(1_000) == 0 { MAX_SYSEX_LEN - 2 - random.below(3) } else { random.below(12) };
             Message::Frame([&[0xF0], &random.data(data)[..], &[0xF7]].concat())
         }
         _ => channel(random, statuses),
@@ -60,7 +58,8 @@ fn channel(random: &mut Numbers, statuses: &[u8]) -> Message {
     Message::Channel { nibble, channel: status & 15, a, b: random.data_byte() }
 }
 
-/// Every byte of a message. The original writes channel messages; it has no writer of common messages and frames, whose bytes stand here.
+/// Every byte of a message. The original writes channel messages (`encode_into`) and has a real-time message's byte (`to_status`); it has no writer
+/// of system common messages, nor of a frame that is given as its bytes. The bytes of all but channel messages stand here.
 fn put_plain(original: &mut dyn Bench, message: &Message, into: &mut Vec<u8>) {
     match message {
         Message::Channel { nibble, channel, a, b } => {
@@ -81,7 +80,7 @@ fn put_plain(original: &mut dyn Bench, message: &Message, into: &mut Vec<u8>) {
 /// What a writer makes of a chain from the state none. A message that it refuses adds nothing.
 fn written(writer: Writer, chain: &[Message]) -> Vec<u8> {
     let mut state = [0; RUNNING_LEN];
-    let mut out = [0; LIMIT];
+    let mut out = [0; MAX_SYSEX_LEN];
     let mut bytes = Vec::new();
     for message in chain {
         let answer = writer(&mut state, message, &mut out);
@@ -104,7 +103,7 @@ fn spare(chain: &[Message]) -> usize {
     statuses.windows(2).filter(|pair| pair[0] != 0 && pair[0] == pair[1]).count()
 }
 
-/// A chain's bytes by the original's own writers, and by the engine's.
+/// A chain's bytes with every status byte, and as the engine's writer has them.
 struct Sides {
     plain: Vec<u8>,
     shortened: Vec<u8>,
@@ -137,7 +136,7 @@ fn with_plain_data(message: &Message) -> Message {
 
 impl Tally {
     /// A chain from the state none: each decoder must read the list itself from what the engine wrote, with every status byte left out that can be.
-    /// The original must read the list from its own bytes, too.
+    /// The original must read the list from the bytes with every status byte, too.
     pub fn chain(&mut self, chain: &[Message], sizes: &[usize]) {
         match self.same_list(chain, sizes) {
             Ok(Sides { plain, shortened }) => {

@@ -40,7 +40,7 @@ fn say(tally: &Tally) -> ExitCode {
     }
     let written = tally.written();
     let saved = written.plain - written.shortened;
-    println!("chains: {} messages, {} bytes for the original's {}, {saved} saved", written.messages, written.shortened, written.plain);
+    println!("chains: {} messages, {} bytes for {} with every status byte, {saved} saved", written.messages, written.shortened, written.plain);
     let alike: u64 = tally.alike().values().sum();
     let passed: u64 = tally.passed_over().values().sum();
     let different: u64 = tally.differences().values().map(|found| found.seen).sum();
