@@ -156,6 +156,9 @@ static void on_realtime(struct box *box, const dm_fed_answer *fed)
 {
     printf("real-time %02lx", (unsigned long)fed->status);
     send_on(box, dm_running_realtime(box->running, sizeof box->running, (uint8_t)fed->status, box->out, sizeof box->out));
+    /* A listener may forget its running status at a system reset: the next channel message gets its status byte. */
+    if (fed->status == 0xFF && dm_running_fresh(box->running, sizeof box->running).number != 0)
+        box->wrong = 1;
 }
 
 /* Identity requests get an answer; replies are told. Gives 0 where the frame is neither. */
