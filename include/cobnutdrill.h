@@ -157,8 +157,8 @@ dm_answer dm_realtime_write(uint8_t byte, uint8_t *out, size_t out_len);
  * state and out, and its value is the count written; send those bytes, and nothing else, on that cable. One that refuses, or answers DM_NO_RECORD,
  * leaves both as they were.
  *
- * A listener who has missed bytes reads nothing before the next status byte. So begin again with dm_running_fresh where a plug may have been put
- * in, where something else was sent on the cable, and behind FF where the listener forgets all it knows at a reset.
+ * A listener who has missed bytes may misread all that comes ahead of the next status byte. So begin again with dm_running_fresh where a plug may
+ * have been put in, where something else was sent on the cable, and behind FF where the listener forgets all it knows at a reset.
  *
  * The four calls that write a message refuse DM_BAD_STORE first, for another length than DM_RUNNING_LEN and for bytes that are no state.
  * DM_BUFFER_TOO_SMALL comes last, and tells the bytes that would be written: a status byte that is left out is not counted.
@@ -168,14 +168,17 @@ dm_answer dm_realtime_write(uint8_t byte, uint8_t *out, size_t out_len);
 dm_answer dm_running_fresh(uint8_t *state, size_t state_len);
 
 /*
- * Writes a channel message. nibble, a and b are those of dm_channel_write. Behind DM_BAD_STORE comes DM_NO_RECORD for another nibble; then it
- * refuses DM_CHANNEL_OUT_OF_RANGE, DM_BUFFER_TOO_SMALL.
+ * Writes a channel message of at most three bytes. nibble: 80 note off, 90 note on, A0 key pressure, B0 control change, C0 program change, D0 channel
+ * pressure, E0 bend. a: the whole of a bend, and else the first data byte; b: the second data byte, where the message has one. The low seven bits of
+ * data and fourteen of a bend are kept. Behind DM_BAD_STORE comes DM_NO_RECORD for another nibble; then it refuses DM_CHANNEL_OUT_OF_RANGE,
+ * DM_BUFFER_TOO_SMALL.
  */
 dm_answer dm_running_channel(uint8_t *state, size_t state_len, uint8_t nibble, uint8_t channel, uint16_t a, uint8_t b, uint8_t *out, size_t out_len);
 
 /*
- * Writes a system common message. status and value are those of dm_common_write. Behind DM_BAD_STORE comes DM_NO_RECORD for another status; then it
- * refuses DM_VALUE_TOO_LARGE, DM_BUFFER_TOO_SMALL.
+ * Writes a system common message of at most three bytes. status: F1 time code and F3 song select, with a value to 127; F2 song position, to 16,383;
+ * F6 tune request, whose value is ignored. Behind DM_BAD_STORE comes DM_NO_RECORD for another status; then it refuses DM_VALUE_TOO_LARGE,
+ * DM_BUFFER_TOO_SMALL.
  */
 dm_answer dm_running_common(uint8_t *state, size_t state_len, uint8_t status, uint16_t value, uint8_t *out, size_t out_len);
 

@@ -103,15 +103,18 @@ module _ (v : ℕ) (xs : List ℕ) (closed : is_open v xs ≡ false) (rest : Lis
       → Reads status (a ∷ []) rest → Reads v xs (tags true e (status ∷ a ∷ []) ++ rest)
   one_data status a e h n small m after =
       reads_as k.Held v xs status true [] (tags false e (a ∷ []) ++ rest) h (rw closed)
-      (reads_as k.Data status [] a false (gives e ∷ []) rest small (rw (ne_eqb status 0xF0 h.2, n) (split (is_channel_status status) (λ c. rw c m) (λ c. rw c m))) after)
+      (reads_as k.Data status [] a false (gives e ∷ []) rest small
+      (rw (ne_eqb status 0xF0 h.2, n) (split (is_channel_status status) (λ c. rw c m) (λ c. rw c m))) after)
 
   -- a status byte and two data bytes
   two_data : (status a b : ℕ) (e : Event) → Range k.Held status → data_length status ≡ 2 → a < 0x80 → b < 0x80 → message status a b ≡ gives e ∷ []
       → Reads status (a ∷ b ∷ []) rest → Reads v xs (tags true e (status ∷ a ∷ b ∷ []) ++ rest)
   two_data status a b e h n small less m after =
       reads_as k.Held v xs status true [] (tags false e (a ∷ b ∷ []) ++ rest) h (rw closed)
-      (reads_as k.Data status [] a false [] (tags false e (b ∷ []) ++ rest) small (rw (ne_eqb status 0xF0 h.2, n) (split (is_channel_status status) (λ c. rw c) (λ c. rw c)))
-      (reads_as k.Data status (a ∷ []) b false (gives e ∷ []) rest less (rw (ne_eqb status 0xF0 h.2, n) (split (is_channel_status status) (λ c. rw c m) (λ c. rw c m))) after))
+      (reads_as k.Data status [] a false [] (tags false e (b ∷ []) ++ rest) small
+      (rw (ne_eqb status 0xF0 h.2, n) (split (is_channel_status status) (λ c. rw c) (λ c. rw c)))
+      (reads_as k.Data status (a ∷ []) b false (gives e ∷ []) rest less
+      (rw (ne_eqb status 0xF0 h.2, n) (split (is_channel_status status) (λ c. rw c m) (λ c. rw c m))) after))
 
   -- F6 alone
   tune : Reads 0xF6 [] rest → Reads v xs (tagged (Common y.TuneRequest) ++ rest)
@@ -165,7 +168,8 @@ module _ (v : ℕ) (xs : List ℕ) (closed : is_open v xs ≡ false) (rest : Lis
   voice_reads c (w.ChannelPressure a) ok after = one c (w.ChannelPressure a) (a % 128) ok refl (omega arith) after
   voice_reads c (w.PitchBend a) ok after = two c (w.PitchBend a) (a % 128) (a / 128 % 128) ok refl (omega arith) (omega arith) after
 
-  common_reads : (m : SystemCommon) → sendable (Common m) ≡ true → Reads (end_status (Common m)) (end_data (Common m)) rest → Reads v xs (tagged (Common m) ++ rest)
+  common_reads : (m : SystemCommon) → sendable (Common m) ≡ true → Reads (end_status (Common m)) (end_data (Common m)) rest
+      → Reads v xs (tagged (Common m) ++ rest)
   unfolding message
   common_reads (y.TimeCodeQuarterFrame a) ok after =
       let fit = (both _ _ ok).0 in

@@ -123,10 +123,11 @@ module _ (st : Option ℕ) (fine : is_running st ≡ true) (h : Handed) (out : L
       → HandedSent (Some h) (answer_of (count_of a)) (running_bytes st) (running_after_call a next (running_bytes st)) out (after a out)
   meets a e =
       let same = on_the_state st fine (Some h) (length out) in
-      subst (λ (b : Option ℕ). RunningSent (called_out (running_bytes st) (Some h) (length out)) b (answer_of (count_of a)) (running_bytes st)
-      (running_after_call a next (running_bytes st)) out (after a out)) (sym same.1)
-      (subst (λ (o : Outcome (List ℕ)). RunningSent o next (answer_of (count_of a)) (running_bytes st) (running_after_call a next (running_bytes st)) out (after a out))
-      (sym (same.0 ∙ e)) (record { sends = record { answers = refl; leaves = refl }; keeps = refl }))
+      let left = running_after_call a next (running_bytes st) in
+      let out_of = called_out (running_bytes st) (Some h) (length out) in
+      subst (λ (b : Option ℕ). RunningSent out_of b (answer_of (count_of a)) (running_bytes st) left out (after a out)) (sym same.1)
+      (subst (λ (o : Outcome (List ℕ)). RunningSent o next (answer_of (count_of a)) (running_bytes st) left out (after a out)) (sym (same.0 ∙ e))
+      (record { sends = record { answers = refl; leaves = refl }; keeps = refl }))
 
   host_call : (a : Outcome (List ℕ)) → handed_out st h (length out) ≡ a → numbered a ≡ true
       → HostSending (running_bytes (state_kept (emitted_of a next) st)) is bytes end
@@ -146,11 +147,13 @@ sent_by_host (g.one_call {st} {last} {is} {bytes} h out later answer met calls) 
     let next = state_behind st (item_handed h) in
     let kept : is_running (state_kept (answered answer) st) ≡ true = (sending_is_chain (g.one_call {st = st} h out later answer met g.no_call) fine).1 in
     let rest = sent_by_host calls kept in
-    subst (λ (a : Outcome Emitted). HostSending (running_bytes st) (items_accepted a h ++ is) (gone_out a later ++ bytes) (running_bytes last)) (sym met.answers)
-    (subst (λ (l : List ℕ). HostSending (running_bytes st) (items_accepted (emitted_of o next) h ++ is) (gone_out (emitted_of o next) l ++ bytes) (running_bytes last))
-    (sym met.leaves)
-    (host_call st fine h out is bytes (running_bytes last) o refl (handed_numbered st h (length out))
-    (subst (λ (a : Outcome Emitted). HostSending (running_bytes (state_kept a st)) is bytes (running_bytes last)) met.answers rest)))
+    let end = running_bytes last in
+    let Sends : Outcome Emitted → List ℕ → Type 0 =
+    λ (a : Outcome Emitted) (l : List ℕ). HostSending (running_bytes st) (items_accepted a h ++ is) (gone_out a l ++ bytes) end in
+    subst (λ (a : Outcome Emitted). Sends a later) (sym met.answers)
+    (subst (λ (l : List ℕ). Sends (emitted_of o next) l) (sym met.leaves)
+    (host_call st fine h out is bytes end o refl (handed_numbered st h (length out))
+    (subst (λ (a : Outcome Emitted). HostSending (running_bytes (state_kept a st)) is bytes end) met.answers rest)))
 
 -- every list of messages in range can be sent by a host's calls
 pub every_list_is_sent_by_host : (is : List Item) → items_fit is ≡ true

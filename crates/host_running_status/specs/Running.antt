@@ -40,7 +40,7 @@ abbrev pub host_out : Option ℕ → Option Handed → ℕ → Outcome (List ℕ
 host_out st (Some x) room = handed_out st x room
 host_out st None room = refused 255 []
 
--- the state behind it
+-- the state behind what the writer is handed
 abbrev pub host_behind : Option ℕ → Option Handed → Option ℕ
 host_behind st (Some x) = state_behind st (item_handed x)
 host_behind st None = st

@@ -55,6 +55,6 @@ every_state_is_reached (Some b) fine =
     let sent = every_list_is_sent None refl is (rw fits) in
     (is, sent.0, subst (λ (st : Option ℕ). Sending None is sent.0 st) (state_is_theirs sent.2 refl ∙ ap (λ (n : ℕ). Some n) found.is) sent.2)
 
--- and no calls give one that is refused
+-- no calls from none give a state that is refused
 pub reached_is_running : {st : Option ℕ} {is : List Item} {bytes : List ℕ} → Sending None is bytes st → is_running st ≡ true
 reached_is_running calls = (sending_is_chain calls refl).1

@@ -47,7 +47,8 @@ none_waits m xs even = split (leb (length (data_bytes m)) 1) (λ l. rw l) two
 -- the state behind a message with its own status byte agrees
 agrees_behind : (m : Message) → sendable m ≡ true → Agrees (running_after m) (end_status m) (end_data m)
 agrees_behind (Voice c m) ok =
-    (refl, rw ((voice_status c m (channel_fits c m ok)).2) (none_waits m [] (by_test (λ (n : ℕ). n ≡ 0) (leb (length (data_bytes m)) 1) _ _ (λ l. refl) (λ l. refl))))
+    let none : left_over (length (data_bytes m)) 0 ≡ 0 = by_test (λ (n : ℕ). n ≡ 0) (leb (length (data_bytes m)) 1) _ _ (λ l. refl) (λ l. refl) in
+    (refl, rw ((voice_status c m (channel_fits c m ok)).2) (none_waits m [] none))
 agrees_behind (Common m) ok = tt
 agrees_behind (Frame xs) ok = tt
 

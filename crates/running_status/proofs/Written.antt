@@ -57,7 +57,8 @@ call_for st fine (OfMessage (Common m)) ok = common_call m (both _ _ (both _ _ o
   where
     common_call : (x : _) → common_in_range x ≡ true → Accepts st (OfMessage (Common x))
     common_call (y.TimeCodeQuarterFrame a) h =
-        record { handed = plain (o.Common s.TimeCodeQuarterFrame a); bytes = shortened st (Common (y.TimeCodeQuarterFrame a)); is = refl; given = rw (fine, h) (just_room _) }
+        let bytes = shortened st (Common (y.TimeCodeQuarterFrame a)) in
+        record { handed = plain (o.Common s.TimeCodeQuarterFrame a); bytes = bytes; is = refl; given = rw (fine, h) (just_room bytes) }
     common_call (y.SongPosition a) h =
         record { handed = plain (o.Common s.SongPosition a); bytes = shortened st (Common (y.SongPosition a)); is = refl; given = rw (fine, h) (just_room _) }
     common_call (y.SongSelect a) h =
@@ -86,8 +87,7 @@ every_list_is_sent st fine (i ∷ is) ok =
     let each = fit_first i is ok in
     let a = call_for st fine i each.0 in
     let next = state_behind st (item_handed a.handed) in
-    let rest = every_list_is_sent next (accepted_writes st a.handed (length a.bytes) a.bytes fine a.given).1 is each.1 in
-    (
+    let rest = every_list_is_sent next (accepted_writes st a.handed (length a.bytes) a.bytes fine a.given).1 is each.1 in (
       _,
       rest.1,
       subst (λ (j : Item). Sending st (j ∷ is) (take (length a.bytes) (after (gives a.bytes) a.bytes) ++ rest.0) rest.1) a.is

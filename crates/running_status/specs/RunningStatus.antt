@@ -48,7 +48,7 @@ abbrev pub item_bytes : Option ℕ → Item → List ℕ
 item_bytes st (OfMessage m) = shortened st m
 item_bytes st (OfRealtime x) = realtime_byte x ∷ []
 
--- the state behind it: a frame or a system common message clears it, "and a real-time byte does not"
+-- the state behind whatever comes: a frame or a system common message clears it, "and a real-time byte does not"
 abbrev pub state_behind : Option ℕ → Item → Option ℕ
 state_behind st (OfMessage m) = running_after m
 state_behind st (OfRealtime x) = st
@@ -77,8 +77,8 @@ when_frame frame next = when_framed frame (when_seven_bit (body frame) (unless (
 abbrev pub frame_out : Option ℕ → List ℕ → ℕ → Outcome (List ℕ)
 frame_out st frame room = unless (is_running st) 20 [] (when_frame frame (with_room room frame))
 
--- the whole of what a call does: how many bytes it wrote and the state behind them, or its refusal, which gives no state; and every byte of the lent
--- buffer afterwards
+-- the whole of what a call does: how many bytes it wrote and the state behind them, or its refusal and no state; and every byte of the lent buffer
+-- afterwards
 pub record Emits (o : Outcome (List ℕ)) (next : Option ℕ) (answer : Result Emitted Refusal) (before afterwards : List ℕ) : Type 0 where
   pub answers : answered answer ≡ and_then o (λ (bytes : List ℕ). gives (record { count = length bytes; state = next }))
   pub leaves : afterwards ≡ after o before

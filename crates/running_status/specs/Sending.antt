@@ -13,12 +13,12 @@ pub data Handed : Type 0 where
   plain : Outgoing → Handed
   frame_bytes : List ℕ → Handed
 
--- the message that it is
+-- the message that a call is handed
 abbrev pub item_handed : Handed → Item
 item_handed (plain m) = item_of m
 item_handed (frame_bytes bytes) = OfMessage (Frame (body bytes))
 
--- what the call comes to
+-- what a call comes to
 abbrev pub handed_out : Option ℕ → Handed → ℕ → Outcome (List ℕ)
 handed_out st (plain m) room = message_out st m room
 handed_out st (frame_bytes bytes) room = frame_out st bytes room

@@ -14,6 +14,6 @@ says_running bytes =
     eqb (length bytes) 2
     && ((eqb (get_or bytes 0 0) 0 && eqb (get_or bytes 1 0) 0) || (eqb (get_or bytes 0 0) 1 && is_channel_status (get_or bytes 1 0)))
 
--- the state that they say
+-- the state that two such bytes say
 abbrev pub running_of : List ℕ → Option ℕ
 running_of bytes = pick (eqb (get_or bytes 0 0) 0) None (Some (get_or bytes 1 0))

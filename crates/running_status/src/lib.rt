@@ -7,7 +7,7 @@ ghost use Rattle.wire.specs.ChannelMessage.{status_nibble};
 ghost use Rattle.wire.specs.Channel.{when_channel};
 ghost use Rattle.refusal.specs.Outcome.{answered, gives, with_room};
 ghost use Rattle.framing.specs.Framing.{body};
-ghost use Rattle.running_status.specs.RunningStatus.{OfMessage, is_running, shortened, running_after, state_behind, item_of, message_out, when_frame, frame_out, Emits};
+ghost use Rattle.running_status.specs.RunningStatus.{OfMessage, is_running, running_after, state_behind, item_of, message_out, when_frame, frame_out, Emits};
 ghost use Rattle.damage.specs.Sent.{Voice, Common, Frame};
 ghost use Rattle.wire.specs.SystemCommon.{common};
 ghost use Rattle.running_status.specs.declared.Outgoing.TheVariants as o;
@@ -32,15 +32,15 @@ pub enum Outgoing {
     Realtime(Realtime),
 }
 
-// What a call wrote: how many bytes, and the running status behind them, which the next call gets. A refused call gives none, and the next gets the state
-// that it got.
+// What a call wrote: how many bytes, and the running status behind them, which the next call gets. Behind a refusal the next call gets what this one
+// got.
 #[derive(Clone, Copy, Debug, PartialEq, Eq)]
 pub struct Emitted {
     pub count: usize,
     pub state: Option<u8>,
 }
 
-// The state of the writer: no running status, or the status byte 80 to EF that is it. From none a listener that knows nothing yet can follow.
+// Is it a state of the writer: no running status, or the status byte 80 to EF that it is?
 pub fn is_running(state: Option<u8>) -> bool
     ensures { result ≡ is_running state }
 {

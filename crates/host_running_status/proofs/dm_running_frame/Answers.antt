@@ -8,5 +8,5 @@ use Rattle.host_running_status.proofs.dm_running_frame.Goals as goal
 pub returns-in-Err : goal.returns-in-Err
 returns-in-Err c =
     let x : Handed = frame_bytes c.args.frame.now in
-    refused_call c.args.state.now c.in-Some.running (λ (st : Option ℕ). handed_out st x (length c.args.out.now)) (λ (st : Option ℕ). state_behind st (item_handed x))
-    c.in-Err.e c.from-in-Err.result c.args.out.now c.write_frame.new.out (sym c.read_running.ensures ∙ c.in-Some.is) c.in-Err.ensures c.from-in-Err.ensures
+    refused_call c.args.state.now c.in-Some.running (λ (st : Option ℕ). handed_out st x (length c.args.out.now))
+    (λ (st : Option ℕ). state_behind st (item_handed x)) c.in-Err.e c.from-in-Err.result c.args.out.now c.write_frame.new.out (sym c.read_running.ensures ∙ c.in-Some.is) c.in-Err.ensures c.from-in-Err.ensures
