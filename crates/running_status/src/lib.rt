@@ -3,14 +3,12 @@
 #![tactic(auto)]
 
 ghost use Rattle.std.specs.Prelude.{◌≡◌, length};
-ghost use Rattle.wire.specs.ChannelMessage.{status_nibble};
-ghost use Rattle.wire.specs.Channel.{when_channel};
-ghost use Rattle.refusal.specs.Outcome.{answered, gives, with_room};
-ghost use Rattle.framing.specs.Framing.{body};
-ghost use Rattle.running_status.specs.RunningStatus.{OfMessage, is_running, running_after, state_behind, item_of, message_out, when_frame, frame_out, Emits};
-ghost use Rattle.damage.specs.Sent.{Voice, Common, Frame};
+ghost use Rattle.refusal.specs.Outcome.{answered, gives};
 ghost use Rattle.wire.specs.SystemCommon.{common};
+ghost use Rattle.framing.specs.Framing.{body};
+ghost use Rattle.damage.specs.Sent.{Voice, Common, Frame};
 ghost use Rattle.running_status.specs.declared.Outgoing.TheVariants as o;
+ghost use Rattle.running_status.specs.RunningStatus.{OfMessage, is_running, running_after, state_behind, item_of, message_out, when_frame, frame_out, Emits};
 
 pub mod bytes;
 
