@@ -6,53 +6,38 @@ use mathlib.Core.Bool.{Bool, true}
 use mathlib.Core.List.{List, [], ◌++◌}
 use Prim.Native.Nat.{ℕ}
 use native.Mathlib.Omega.{arith}
-use lib.Dec.{leb, ltb}
+use lib.Dec.{leb}
 use lib.ListN.{length, replicate}
 use borrow.Author.Tests.{ne_eqb, leb-true}
 use Rattle.laws.proofs.Tests.{both}
-use Rattle.refusal.specs.Outcome.{Outcome, gives, refused, unless, and_then, answered, with_room, after, count_of}
-use Rattle.refusal.proofs.Numbered.{numbered, unless_numbered}
-use Rattle.wire.specs.SystemCommon.{common, common_in_range}
-use Rattle.decoder.specs.State.{limit, fresh}
-use Rattle.framing.proofs.Bytes.{high_numbered}
-use Rattle.framing.specs.Framing.{framed, body, first_high}
+use Rattle.refusal.specs.Outcome.{Outcome, gives, refused, unless, answered, after, count_of}
+use Rattle.refusal.proofs.Numbered.{in_table, numbered}
+use Rattle.decoder.specs.State.{fresh}
 use Rattle.stream.specs.State.{encoded}
-use Rattle.running_status.specs.declared.Outgoing.{Outgoing}
-use Rattle.running_status.specs.declared.Outgoing.TheVariants as o
 use Rattle.running_status.specs.declared.Emitted.{Emitted}
-use Rattle.running_status.specs.RunningStatus.{is_running, Item, when_item, when_frame, state_behind, Emits}
+use Rattle.running_status.specs.RunningStatus.{is_running, Item, state_behind, Handed, item_handed, handed_out, emitted_of, Emits}
 use Rattle.running_status.specs.Chain.{items_fit}
 use Rattle.running_status.specs.StateBytes.{running_bytes, says_running, running_of}
-use Rattle.running_status.specs.Sending.{Handed, plain, frame_bytes, item_handed, handed_out, state_kept, gone_out, items_accepted, Sending}
+use Rattle.running_status.specs.Sending.{state_kept, gone_out, items_accepted, Sending}
 use Rattle.running_status.specs.Sending as g
-use Rattle.running_status.proofs.Sends.{accepted_writes, sending_is_chain}
+use Rattle.running_status.specs.ReadBack.{SameMessages, ReadsBack, NoShorter}
+use Rattle.running_status.proofs.Numbered.{handed_numbered}
+use Rattle.running_status.proofs.Sends.{accepted_writes, sending_is_chain, IsChain, written_is_chain}
 use Rattle.running_status.proofs.StateBytes.{running_said, bytes_say_running}
 use Rattle.running_status.proofs.ReadBack.{same_messages, reads_back}
-use Rattle.running_status.proofs.Written.{every_list_is_sent}
+use Rattle.running_status.proofs.CanBeSent.{every_list_is_sent}
 use Rattle.running_status.proofs.Reached.{reached_is_running}
 use Rattle.running_status.proofs.Minimal.{no_shorter_read}
 use Rattle.host_answer.specs.declared.Answer.{Answer}
 use Rattle.host_answer.specs.Answer.{answer_of}
 use Rattle.host_running_status.specs.Running.{host_out, host_behind, called_out, running_after_call, RunningSent, HandedSent}
 use Rattle.host_damage.specs.HostCalls.{by_host}
-use Rattle.host_damage.specs.RunningCalls.{items_told, bytes_told, HostSending, no_call, one_call, HostSameMessages, HostReadsBack, HostNoShorter}
+use Rattle.host_damage.specs.RunningCalls.{items_told, bytes_told, HostSending, no_call, one_call, WrittenByHost}
 use Rattle.host_damage.proofs.Condition3OfHost.{promises_by_host}
 
--- a refusal of the writer has a number of document 01's table, and so is not told as 0
-room_numbered : (room : ℕ) (bytes : List ℕ) → numbered (with_room room bytes) ≡ true
-room_numbered room bytes = unless_numbered (leb (length bytes) room) 14 _ (gives bytes) refl refl
-
-item_numbered : (m : Outgoing) (next : Outcome (List ℕ)) → numbered next ≡ true → numbered (when_item m next) ≡ true
-item_numbered (o.Channel c m) next h = unless_numbered (ltb c.0 16) 17 _ next refl h
-item_numbered (o.Common k v) next h = unless_numbered (common_in_range (common k v)) 21 _ next refl h
-item_numbered (o.Realtime x) next h = h
-
-handed_numbered : (st : Option ℕ) (x : Handed) (room : ℕ) → numbered (handed_out st x room) ≡ true
-handed_numbered st (plain m) room = unless_numbered (is_running st) 20 [] (when_item m _) refl (item_numbered m _ (room_numbered room _))
-handed_numbered st (frame_bytes bs) room =
-    unless_numbered (is_running st) 20 [] (when_frame bs (with_room room bs)) refl
-    (unless_numbered (framed bs) 1 [] _ refl
-    (high_numbered (first_high (body bs)) _ (unless_numbered (leb (length bs) limit) 19 _ (with_room room bs) refl (room_numbered room bs))))
+-- a number of document 01's table is not 0, by which a host tells that a call was done
+in_table_not_0 : (n : ℕ) → in_table n ≡ true → n ≡ 0 → ⊥
+in_table_not_0 n h z = omega (arith, leb-true 1 n (both (leb 1 n) (leb n 22) h).0, z)
 
 -- what is to be found: calls of the writer that send the same, and leave the state whose bytes the host's calls leave
 abbrev SentToo : Option ℕ → List Item → List ℕ → List ℕ → Type 0
@@ -73,11 +58,10 @@ module _ (st : Option ℕ) (fine : is_running st ≡ true) (answer : Answer) (le
   writer_call h (gives w) e in-table met =
       let next = state_behind st (item_handed h) in
       let behind = rest next met.keeps (accepted_writes st h (length out) w fine e).1 in
-      let emits : Emits (handed_out st h (length out)) next (Ok (record { count = length w; state = next })) out later =
-      record { answers = rw e; leaves = rw e met.sends.leaves } in
+      let emits : Emits st h (Ok (record { count = length w; state = next })) out later = record { answers = rw e; leaves = rw e met.sends.leaves } in
       rw met.sends.answers (behind.0, g.one_call {st = st} h out later (Ok (record { count = length w; state = next })) emits behind.1, behind.2)
   writer_call h (refused n values) e in-table met =
-      nothing_sent (Some h) n values _ (λ z. omega (arith, leb-true 1 n (both (leb 1 n) (leb n 22) in-table).0, z)) met
+      nothing_sent (Some h) n values _ (in_table_not_0 n in-table) met
 
   any_call : (x : Option Handed) → RunningSent (host_out st x (length out)) (host_behind st x) answer (running_bytes st) left out later
       → SentToo st (items_told answer x ++ is) (bytes_told answer later ++ bytes) end
@@ -110,10 +94,6 @@ state_stays calls =
     let too = sent_by_writer calls None refl refl in
     ap says_running too.2 ∙ bytes_say_running too.0 ∙ reached_is_running too.1
 
--- what a call of the writer answers
-abbrev emitted_of : Outcome (List ℕ) → Option ℕ → Outcome Emitted
-emitted_of o next = and_then o (λ (bytes : List ℕ). gives (record { count = length bytes; state = next }))
-
 -- a host's call with what a call of the writer is handed
 module _ (st : Option ℕ) (fine : is_running st ≡ true) (h : Handed) (out : List ℕ) (is : List Item) (bytes end : List ℕ) where
   abbrev next : Option ℕ
@@ -134,9 +114,8 @@ module _ (st : Option ℕ) (fine : is_running st ≡ true) (h : Handed) (out : L
       → HostSending (running_bytes st) (items_accepted (emitted_of a next) h ++ is) (gone_out (emitted_of a next) (after a out) ++ bytes) end
   host_call (gives w) e in-table rest = one_call (Some h) (answer_of (gives (length w))) (running_bytes next) out (after (gives w) out) (meets (gives w) e) rest
   host_call (refused n values) e in-table rest =
-      let high : n ≡ 0 → ⊥ = λ z. omega (arith, leb-true 1 n (both (leb 1 n) (leb n 22) in-table).0, z) in
       let sent = one_call (Some h) (answer_of (refused n values)) (running_bytes st) out out (meets (refused n values) e) rest in
-      rw (ne_eqb n 0 high) at sent
+      rw (ne_eqb n 0 (in_table_not_0 n in-table)) at sent
 
 -- whatever the writer's calls send, some calls of a host send
 pub sent_by_host : {st last : Option ℕ} {is : List Item} {bytes : List ℕ} → Sending st is bytes last → is_running st ≡ true
@@ -156,26 +135,23 @@ sent_by_host (g.one_call {st} {last} {is} {bytes} h out later answer met calls) 
     (subst (λ (a : Outcome Emitted). HostSending (running_bytes (state_kept a st)) is bytes end) met.answers rest)))
 
 -- every list of messages in range can be sent by a host's calls
-pub every_list_is_sent_by_host : (is : List Item) → items_fit is ≡ true
-    → (bytes last : List ℕ) × HostSending (running_bytes None) is bytes last
+pub every_list_is_sent_by_host : (is : List Item) → items_fit is ≡ true → (bytes : List ℕ) × WrittenByHost is bytes
 every_list_is_sent_by_host is fit =
     let sent = every_list_is_sent None refl is fit in
-    (sent.0, running_bytes sent.1, sent_by_host sent.2 refl)
+    (sent.0, (running_bytes sent.1, sent_by_host sent.2 refl))
 
--- READ-BACK for lists of entry points' calls: what dm_running_* sent, dm_feed reads back, from fourteen bytes 00
-pub same_messages_to_host : HostSameMessages (replicate 14 0)
-same_messages_to_host is bytes last calls =
-    let too = sent_by_writer calls None refl refl in
-    same_messages by_host (encoded fresh) (promises_by_host fresh).calls_mean is bytes too.0 too.1
+-- what a host's calls wrote is the chain
+host_is_chain : IsChain WrittenByHost
+host_is_chain is bytes w = let too = sent_by_writer w.1 None refl refl in written_is_chain is bytes (too.0, too.1)
 
--- READ-BACK byte by byte
-pub reads_back_to_host : HostReadsBack (replicate 14 0)
-reads_back_to_host is bytes last calls =
-    let too = sent_by_writer calls None refl refl in
-    reads_back by_host (encoded fresh) (promises_by_host fresh).calls_mean is bytes too.0 too.1
+-- READ-BACK for lists of entry points' calls: what dm_running_* wrote, dm_feed reads back, from fourteen bytes 00
+pub same_messages_to_host : SameMessages WrittenByHost by_host (replicate 14 0)
+same_messages_to_host = same_messages WrittenByHost host_is_chain by_host (encoded fresh) (promises_by_host fresh).calls_mean
 
--- MINIMALITY: no list of dm_feed calls reads shorter bytes as the same messages
-pub no_shorter_to_host : HostNoShorter (replicate 14 0)
-no_shorter_to_host is bytes last calls =
-    let too = sent_by_writer calls None refl refl in
-    no_shorter_read by_host (encoded fresh) (promises_by_host fresh).calls_mean is bytes too.0 too.1
+-- READ-BACK byte by byte for lists of entry points' calls
+pub reads_back_to_host : ReadsBack WrittenByHost by_host (replicate 14 0)
+reads_back_to_host = reads_back WrittenByHost host_is_chain by_host (encoded fresh) (promises_by_host fresh).calls_mean
+
+-- MINIMALITY for lists of entry points' calls: no list of dm_feed calls reads shorter bytes as the same messages
+pub no_shorter_to_host : NoShorter WrittenByHost by_host (replicate 14 0)
+no_shorter_to_host = no_shorter_read WrittenByHost host_is_chain by_host (encoded fresh) (promises_by_host fresh).calls_mean

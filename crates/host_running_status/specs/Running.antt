@@ -6,8 +6,7 @@ use Rattle.wire.specs.declared.system_common.CommonStatus.{CommonStatus}
 use Rattle.wire.specs.declared.real_time.Realtime.{Realtime}
 use Rattle.running_status.specs.declared.Outgoing.{Outgoing}
 use Rattle.running_status.specs.declared.Outgoing.TheVariants as o
-use Rattle.running_status.specs.RunningStatus.{state_behind}
-use Rattle.running_status.specs.Sending.{Handed, plain, frame_bytes, item_handed, handed_out}
+use Rattle.running_status.specs.RunningStatus.{state_behind, Handed, plain, frame_bytes, item_handed, handed_out}
 use Rattle.running_status.specs.StateBytes.{running_bytes, says_running, running_of}
 use Rattle.host_answer.specs.declared.Answer.{Answer}
 use Rattle.host_answer.specs.Answer.{Sends}

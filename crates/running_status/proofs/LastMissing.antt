@@ -35,7 +35,7 @@ use Rattle.damage.specs.Sent.{Message, Voice, Common, Frame, sendable, event_of}
 use Rattle.damage.proofs.Ahead.{next_status, next_data}
 use Rattle.damage.proofs.MessagesRead.{common_lengths}
 use Rattle.running_status.specs.RunningStatus.{shortened, running_after}
-use Rattle.running_status.proofs.Waiting.{left_over, channel_below, channel_fits, voice_status, voice_in_force}
+use Rattle.running_status.proofs.ChannelStatus.{left_over, channel_below, channel_fits, voice_status, voice_in_force}
 use Rattle.running_status.proofs.Missing.{missing_once, common_byte, common_size, missing, frame_length, common_is_one_more, once_at_most}
 
 -- whatever is said where 0 is 1

@@ -1,7 +1,7 @@
 pub mod StateBytes
-pub mod Waiting
+pub mod ChannelStatus
 pub mod Sends
-pub mod Written
+pub mod CanBeSent
 pub mod Reached
 pub mod StreamRead
 pub mod ReadBack
@@ -9,3 +9,4 @@ pub mod Missing
 pub mod LastMissing
 pub mod Minimal
 pub mod Rows
+pub mod Numbered

@@ -42,7 +42,8 @@ use Rattle.damage.proofs.Condition3InPlace.{promises_in_place}
 use Rattle.running_status.specs.RunningStatus.{Item, OfMessage, OfRealtime, shortened, running_after}
 use Rattle.running_status.specs.Chain.{items_fit, chain, item_reports, reports_joined}
 use Rattle.running_status.specs.ReadBack.{NoShorter}
-use Rattle.running_status.proofs.Sends.{sending_is_chain}
+use Rattle.running_status.specs.Sending.{WrittenFromNone}
+use Rattle.running_status.proofs.Sends.{IsChain, written_is_chain}
 use Rattle.running_status.proofs.Missing.{missing, one_byte_brings_one}
 use Rattle.running_status.proofs.LastMissing.{apart, nothing_said, too_long_said, only_breaks_off, Settled, settled_without, last_missing}
 
@@ -207,18 +208,19 @@ nothing_yet = settled_without 0 [] refl (λ e. omega arith) (omega (arith, none_
 pub no_shorter : (is : List Item) → items_fit is ≡ true → (u : List ℕ) → reports_joined (meaning [] u) ≡ item_reports is → length (chain None is) ≤ length u
 no_shorter is ok u says = omega (arith, missing_is_written None 0 [] is ok nothing_yet, as_many_as_missing u [] is ok says)
 
--- MINIMALITY of every caller whose calls report what history says, since history of the bytes used is the first part of history of them all
-pub no_shorter_read : (c : Caller) (start : c.State) → CallsMean c start → NoShorter c start
-no_shorter_read c start mean is bytes last calls ok store room any cs log made says =
+-- MINIMALITY of whatever wrote the chain, and of every caller whose calls report what history says, since history of the bytes used is the first part of
+-- history of them all
+pub no_shorter_read : (wrote : List Item → List ℕ → Type 0) → IsChain wrote → (c : Caller) (start : c.State) → CallsMean c start → NoShorter wrote c start
+no_shorter_read wrote chains c start mean is bytes written ok store room any cs log made says =
     let n = total_used log.answers in
     let same = (mean store room any cs log made).0 ∙ sym (meaning_take [] any n) in
-    let sent : length bytes ≡ length (chain None is) = ap length (sending_is_chain calls refl).0 in
+    let sent : length bytes ≡ length (chain None is) = ap length (chains is bytes written) in
     let least = no_shorter is ok (take n any) (ap reports_joined (sym same) ∙ says) in
     (omega (arith, least, length-take n any, sent), omega (arith, least, length-take n any, sent))
 
 -- MINIMALITY of the code's own calls, by value and in place, from every state that a reset leaves
-pub no_shorter_by_value : (d : Decoder) → NoShorter by_value (reset d)
-no_shorter_by_value d = no_shorter_read by_value (reset d) (promises_by_value d).calls_mean
+pub no_shorter_by_value : (d : Decoder) → NoShorter WrittenFromNone by_value (reset d)
+no_shorter_by_value d = no_shorter_read WrittenFromNone written_is_chain by_value (reset d) (promises_by_value d).calls_mean
 
-pub no_shorter_in_place : (d : Decoder) → NoShorter in_place (reset d)
-no_shorter_in_place d = no_shorter_read in_place (reset d) (promises_in_place d).calls_mean
+pub no_shorter_in_place : (d : Decoder) → NoShorter WrittenFromNone in_place (reset d)
+no_shorter_in_place d = no_shorter_read WrittenFromNone written_is_chain in_place (reset d) (promises_in_place d).calls_mean

@@ -19,7 +19,7 @@ use Rattle.decoder.specs.declared.Class.TheVariants as k
 use Rattle.damage.specs.Sent.{Message, Voice, Common, Frame, bytes_of}
 use Rattle.damage.proofs.Ahead.{next_status, next_data}
 use Rattle.damage.proofs.MessagesRead.{end_status, end_data}
-use Rattle.running_status.proofs.Waiting.{left_over}
+use Rattle.running_status.proofs.ChannelStatus.{left_over}
 
 -- of a status that serves once, with n data bytes of which k are there: the rest, and all again where none is left to come
 abbrev pub missing_once : Bool → ℕ → ℕ → ℕ

@@ -20,7 +20,7 @@ use Rattle.damage.specs.Sent.{Voice, sendable}
 use Rattle.running_status.specs.RunningStatus.{is_running, Item, OfMessage}
 use Rattle.running_status.specs.Sending.{Sending, no_call}
 use Rattle.running_status.proofs.Sends.{sending_is_chain, state_is_theirs}
-use Rattle.running_status.proofs.Written.{every_list_is_sent}
+use Rattle.running_status.proofs.CanBeSent.{every_list_is_sent}
 
 -- some message in range has this status byte on this channel
 record OfStatus (b : ℕ) : Type 0 where

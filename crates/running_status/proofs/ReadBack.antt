@@ -12,7 +12,6 @@ use Rattle.std.proofs.lemmas.List.{map-append}
 use Rattle.laws.specs.Choice.{pick}
 use Rattle.laws.proofs.Tests.{true_is_not_false, both, and_true}
 use Rattle.refusal.specs.Outcome.{gives}
-use Rattle.wire.specs.declared.system_common.SystemCommon.TheVariants as y
 use Rattle.wire.specs.RealTime.{realtime_byte}
 use Rattle.wire.proofs.channel_message.Bytes.{channel_length}
 use Rattle.wire.proofs.ReadBack.{realtime_reads_back}
@@ -34,12 +33,13 @@ use Rattle.damage.proofs.ByValue.{promises_by_value}
 use Rattle.damage.proofs.Condition3InPlace.{promises_in_place}
 use Rattle.running_status.specs.RunningStatus.{Item, OfMessage, OfRealtime, omits, running_after, item_bytes, state_behind}
 use Rattle.running_status.specs.Chain.{items_fit, chain, item_report, item_reports, reports_joined, chain_reports}
-use Rattle.running_status.specs.Sending.{Sending}
+use Rattle.running_status.specs.Sending.{WrittenFromNone}
 use Rattle.running_status.specs.Stream.{Stream}
 use Rattle.running_status.specs.Stream as z
 use Rattle.running_status.specs.ReadBack.{SameMessages, ReadsBack}
 use Rattle.running_status.proofs.StreamRead.{stream_reads}
-use Rattle.running_status.proofs.Sends.{sending_is_chain}
+use Rattle.running_status.proofs.Missing.{common_is_one_more}
+use Rattle.running_status.proofs.Sends.{IsChain, written_is_chain}
 
 -- the bytes of a message as they are written, with what each of them reports
 abbrev message_tags : Option ℕ → Message → List Tag
@@ -110,10 +110,7 @@ chain_bytes st (i ∷ is) =
 -- a message has a byte, and one whose status byte is left out has a data byte
 some_byte : (m : Message) → 1 ≤ length (bytes_of m)
 some_byte (Voice c m) = omega arith
-some_byte (Common (y.TimeCodeQuarterFrame a)) = omega arith
-some_byte (Common (y.SongPosition a)) = omega arith
-some_byte (Common (y.SongSelect a)) = omega arith
-some_byte (Common y.TuneRequest) = omega arith
+some_byte (Common m) = omega (arith, common_is_one_more m)
 some_byte (Frame xs) = omega arith
 
 some_data : (st : Option ℕ) (m : Message) → omits st m ≡ true → 1 ≤ length (drop 1 (bytes_of m))
@@ -172,34 +169,32 @@ told_in_order st (i ∷ is) =
     in_order_append (belonging (length (item_bytes st i)) (item_report i ∷ [])) (chain_reports (state_behind st i) is)
     ∙ ap₂ (λ (x r : List Reported). x ++ r) (belonging_in_order (length (item_bytes st i)) (item_report i ∷ [])) (told_in_order (state_behind st i) is)
 
--- READ-BACK of any caller whose calls report what history says: whatever list of the writer's calls, whatever list of decoder calls
-pub reads_back : (c : Caller) (start : c.State) → CallsMean c start → ReadsBack c start
-reads_back c start mean is written last calls fit store room cs log made =
-    subst (λ (l : List (List Reported)). Exactly cs l log) (ap (meaning []) (sending_is_chain calls refl).0 ∙ reads_back_singly is fit)
-    (mean store room written cs log made)
+-- READ-BACK byte by byte of whatever wrote the chain, by any caller whose calls report what history says
+pub reads_back : (wrote : List Item → List ℕ → Type 0) → IsChain wrote → (c : Caller) (start : c.State) → CallsMean c start → ReadsBack wrote c start
+reads_back wrote chains c start mean is bytes written fit store room cs log made =
+    subst (λ (l : List (List Reported)). Exactly cs l log) (ap (meaning []) (chains is bytes written) ∙ reads_back_singly is fit)
+    (mean store room bytes cs log made)
 
--- each byte that was sent has its reports
-every_byte : (is : List Item) → items_fit is ≡ true → (bytes : List ℕ) (last : Option ℕ) → Sending None is bytes last
-    → length (chain_reports None is) ≡ length bytes
-every_byte is fit bytes last calls =
-    ap length (sym (reads_back_singly is fit)) ∙ meaning_length [] (chain None is) ∙ ap length (sym (sending_is_chain calls refl).0)
+-- each byte of the chain has its reports
+every_byte : (is : List Item) → items_fit is ≡ true → length (chain_reports None is) ≡ length (chain None is)
+every_byte is fit = ap length (sym (reads_back_singly is fit)) ∙ meaning_length [] (chain None is)
 
 -- READ-BACK to the end: the reports are the messages
-pub same_messages : (c : Caller) (start : c.State) → CallsMean c start → SameMessages c start
-same_messages c start mean is written last calls fit store room cs log made all =
-    let told = (reads_back c start mean is written last calls fit store room cs log made).0 in
-    let long : length (chain_reports None is) ≤ total_used log.answers = omega (arith, all, every_byte is fit written last calls) in
+pub same_messages : (wrote : List Item → List ℕ → Type 0) → IsChain wrote → (c : Caller) (start : c.State) → CallsMean c start → SameMessages wrote c start
+same_messages wrote chains c start mean is bytes written fit store room cs log made all =
+    let told = (reads_back wrote chains c start mean is bytes written fit store room cs log made).0 in
+    let long : length (chain_reports None is) ≤ total_used log.answers = omega (arith, all, every_byte is fit, ap length (chains is bytes written)) in
     ap reports_joined (told ∙ take_all (total_used log.answers) (chain_reports None is) long) ∙ told_in_order None is
 
 -- READ-BACK of the code's own calls, by value and in place, from every state that a reset leaves
-pub reads_back_by_value : (d : Decoder) → ReadsBack by_value (reset d)
-reads_back_by_value d = reads_back by_value (reset d) (promises_by_value d).calls_mean
+pub same_messages_by_value : (d : Decoder) → SameMessages WrittenFromNone by_value (reset d)
+same_messages_by_value d = same_messages WrittenFromNone written_is_chain by_value (reset d) (promises_by_value d).calls_mean
 
-pub reads_back_in_place : (d : Decoder) → ReadsBack in_place (reset d)
-reads_back_in_place d = reads_back in_place (reset d) (promises_in_place d).calls_mean
+pub same_messages_in_place : (d : Decoder) → SameMessages WrittenFromNone in_place (reset d)
+same_messages_in_place d = same_messages WrittenFromNone written_is_chain in_place (reset d) (promises_in_place d).calls_mean
 
-pub same_messages_by_value : (d : Decoder) → SameMessages by_value (reset d)
-same_messages_by_value d = same_messages by_value (reset d) (promises_by_value d).calls_mean
+pub reads_back_by_value : (d : Decoder) → ReadsBack WrittenFromNone by_value (reset d)
+reads_back_by_value d = reads_back WrittenFromNone written_is_chain by_value (reset d) (promises_by_value d).calls_mean
 
-pub same_messages_in_place : (d : Decoder) → SameMessages in_place (reset d)
-same_messages_in_place d = same_messages in_place (reset d) (promises_in_place d).calls_mean
+pub reads_back_in_place : (d : Decoder) → ReadsBack WrittenFromNone in_place (reset d)
+reads_back_in_place d = reads_back WrittenFromNone written_is_chain in_place (reset d) (promises_in_place d).calls_mean

@@ -9,7 +9,7 @@ use lib.Dec.{ltb, leb}
 use lib.ListN.{length, take}
 use lib.Seq.{take_at}
 use borrow.Author.Tests.{ltb-true}
-use Rattle.refusal.specs.Outcome.{Outcome, gives, refused, unless, and_then, with_room, after}
+use Rattle.refusal.specs.Outcome.{Outcome, gives, refused, unless, with_room, after}
 use Rattle.refusal.proofs.Given.{passed, passed_on}
 use Rattle.wire.specs.SystemCommon.{common, common_in_range}
 use Rattle.decoder.specs.State.{limit}
@@ -19,10 +19,10 @@ use Rattle.damage.specs.Sent.{Frame, bytes_of}
 use Rattle.running_status.specs.declared.Outgoing.{Outgoing}
 use Rattle.running_status.specs.declared.Outgoing.TheVariants as o
 use Rattle.running_status.specs.declared.Emitted.{Emitted}
-use Rattle.running_status.specs.RunningStatus.{is_running, shortened, Item, item_bytes, state_behind, item_of, when_item, when_frame}
+use Rattle.running_status.specs.RunningStatus.{is_running, shortened, Item, item_bytes, state_behind, item_of, when_item, when_frame, Handed, plain, frame_bytes, item_handed, handed_out, emitted_of}
 use Rattle.running_status.specs.Chain.{chain, chain_state}
-use Rattle.running_status.specs.Sending.{Handed, plain, frame_bytes, item_handed, handed_out, state_kept, gone_out, items_accepted, Sending, no_call, one_call}
-use Rattle.running_status.proofs.Waiting.{voice_in_force}
+use Rattle.running_status.specs.Sending.{state_kept, gone_out, items_accepted, Sending, no_call, one_call, WrittenFromNone}
+use Rattle.running_status.proofs.ChannelStatus.{voice_in_force}
 
 -- what fitted was given
 fitted : (room : ℕ) (bytes w : List ℕ) → with_room room bytes ≡ gives w → w ≡ bytes
@@ -70,7 +70,7 @@ CallInFront st x later is bytes last a =
 
 call_in_front : (st : Option ℕ) (x : Handed) (out later : List ℕ) (is : List Item) (bytes : List ℕ) (last : Option ℕ) → is_running st ≡ true
     → (o : Outcome (List ℕ)) → handed_out st x (length out) ≡ o → later ≡ after o out
-    → CallInFront st x later is bytes last (and_then o (λ (w : List ℕ). gives (record { count = length w; state = state_behind st (item_handed x) })))
+    → CallInFront st x later is bytes last (emitted_of o (state_behind st (item_handed x)))
 unfolding chain
 call_in_front st x out later is bytes last fine (gives w) e left rest =
     let r = accepted_writes st x (length out) w fine e in
@@ -92,3 +92,10 @@ sending_is_chain made fine = let r = all_sent made fine in (r.0, r.1)
 -- the state behind the calls is the one behind the accepted messages
 pub state_is_theirs : {st last : Option ℕ} {is : List Item} {bytes : List ℕ} → Sending st is bytes last → is_running st ≡ true → last ≡ chain_state st is
 state_is_theirs made fine = (all_sent made fine).2
+
+-- what stands for messages is the chain of them
+abbrev pub IsChain : (List Item → List ℕ → Type 0) → Type 0
+IsChain wrote = (is : List Item) (bytes : List ℕ) → wrote is bytes → bytes ≡ chain None is
+
+pub written_is_chain : IsChain WrittenFromNone
+written_is_chain is bytes w = (sending_is_chain w.1 refl).0

@@ -26,7 +26,7 @@ use Rattle.damage.proofs.Matches.{last_is}
 use Rattle.damage.proofs.MessagesRead.{Reads, reads_as, Known, voice, end_status, end_data, message_reads, closed_behind}
 use Rattle.running_status.specs.RunningStatus.{omits, running_after}
 use Rattle.running_status.specs.Stream.{Stream, nothing, whole, bare}
-use Rattle.running_status.proofs.Waiting.{left_over, channel_below, channel_fits, voice_status, voice_in_force}
+use Rattle.running_status.proofs.ChannelStatus.{left_over, channel_below, channel_fits, voice_status, voice_in_force}
 
 -- the last status byte v is the sender's running status, and of the data bytes xs since none waits
 abbrev pub Agrees : Option ℕ → ℕ → List ℕ → Type 0

@@ -53,7 +53,7 @@ abbrev pub state_behind : Option ℕ → Item → Option ℕ
 state_behind st (OfMessage m) = running_after m
 state_behind st (OfRealtime x) = st
 
--- the message that a call is handed, where it is no frame
+-- the message that is no frame, as one of these
 abbrev pub item_of : Outgoing → Item
 item_of (o.Channel c m) = OfMessage (Voice c m)
 item_of (o.Common k v) = OfMessage (Common (common k v))
@@ -77,8 +77,26 @@ when_frame frame next = when_framed frame (when_seven_bit (body frame) (unless (
 abbrev pub frame_out : Option ℕ → List ℕ → ℕ → Outcome (List ℕ)
 frame_out st frame room = unless (is_running st) 20 [] (when_frame frame (with_room room frame))
 
--- the whole of what a call does: how many bytes it wrote and the state behind them, or its refusal and no state; and every byte of the lent buffer
--- afterwards
-pub record Emits (o : Outcome (List ℕ)) (next : Option ℕ) (answer : Result Emitted Refusal) (before afterwards : List ℕ) : Type 0 where
-  pub answers : answered answer ≡ and_then o (λ (bytes : List ℕ). gives (record { count = length bytes; state = next }))
-  pub leaves : afterwards ≡ after o before
+-- what a call is handed: a message that is no frame, or a frame's bytes
+pub data Handed : Type 0 where
+  plain : Outgoing → Handed
+  frame_bytes : List ℕ → Handed
+
+-- the message that a call is handed
+abbrev pub item_handed : Handed → Item
+item_handed (plain m) = item_of m
+item_handed (frame_bytes bytes) = OfMessage (Frame (body bytes))
+
+-- what a call comes to, by the room of the buffer that it is lent
+abbrev pub handed_out : Option ℕ → Handed → ℕ → Outcome (List ℕ)
+handed_out st (plain m) room = message_out st m room
+handed_out st (frame_bytes bytes) room = frame_out st bytes room
+
+-- how many bytes a call wrote, with the state behind them; or its refusal, and no state
+abbrev pub emitted_of : Outcome (List ℕ) → Option ℕ → Outcome Emitted
+emitted_of o next = and_then o (λ (bytes : List ℕ). gives (record { count = length bytes; state = next }))
+
+-- the whole of what a call does with what it is handed: its answer, and every byte of the lent buffer afterwards
+pub record Emits (st : Option ℕ) (x : Handed) (answer : Result Emitted Refusal) (before afterwards : List ℕ) : Type 0 where
+  pub answers : answered answer ≡ emitted_of (handed_out st x (length before)) (state_behind st (item_handed x))
+  pub leaves : afterwards ≡ after (handed_out st x (length before)) before

@@ -2,13 +2,10 @@
 // out where it is the running status.
 #![tactic(auto)]
 
-ghost use Rattle.std.specs.Prelude.{◌≡◌, length};
+ghost use Rattle.std.specs.Prelude.{◌≡◌};
 ghost use Rattle.refusal.specs.Outcome.{answered, gives};
-ghost use Rattle.wire.specs.SystemCommon.{common};
-ghost use Rattle.framing.specs.Framing.{body};
-ghost use Rattle.damage.specs.Sent.{Voice, Common, Frame};
 ghost use Rattle.running_status.specs.declared.Outgoing.TheVariants as o;
-ghost use Rattle.running_status.specs.RunningStatus.{OfMessage, is_running, running_after, state_behind, item_of, message_out, when_frame, frame_out, Emits};
+ghost use Rattle.running_status.specs.RunningStatus.{is_running, when_frame, plain, frame_bytes, Emits};
 
 pub mod bytes;
 
@@ -38,7 +35,7 @@ pub struct Emitted {
     pub state: Option<u8>,
 }
 
-// Is it a state of the writer: no running status, or the status byte 80 to EF that it is?
+// Is it a state of the writer? That is none, or a status byte 80 to EF.
 pub fn is_running(state: Option<u8>) -> bool
     ensures { result ≡ is_running state }
 {
@@ -51,7 +48,7 @@ pub fn is_running(state: Option<u8>) -> bool
 
 // Writes a message that is no frame. Refuses 20 for the state, then 17 or 21, then 14.
 pub fn write(state: Option<u8>, message: Outgoing, out: &mut [u8]) -> Result<Emitted, Refusal>
-    ensures { Emits (message_out state message (length out.old)) (state_behind state (item_of message)) result out.old out.new }
+    ensures { Emits state (plain message) result out.old out.new }
 {
     match message {
         Outgoing::Channel { channel, message } => write_channel(state, channel, message, out),
@@ -67,7 +64,7 @@ pub fn write_channel(
     message: ChannelMessage,
     out: &mut [u8],
 ) -> Result<Emitted, Refusal>
-    ensures { Emits (message_out state (o.Channel channel message) (length out.old)) (running_after (Voice channel message)) result out.old out.new }
+    ensures { Emits state (plain (o.Channel channel message)) result out.old out.new }
 {
     if !is_running(state) {
         return Err(Refusal::BadStore);
@@ -93,7 +90,7 @@ pub fn write_common(
     value: u16,
     out: &mut [u8],
 ) -> Result<Emitted, Refusal>
-    ensures { Emits (message_out state (o.Common status value) (length out.old)) (running_after (Common (common status value))) result out.old out.new }
+    ensures { Emits state (plain (o.Common status value)) result out.old out.new }
 {
     if !is_running(state) {
         return Err(Refusal::BadStore);
@@ -108,7 +105,7 @@ pub fn write_realtime(
     message: Realtime,
     out: &mut [u8],
 ) -> Result<Emitted, Refusal>
-    ensures { Emits (message_out state (o.Realtime message) (length out.old)) state result out.old out.new }
+    ensures { Emits state (plain (o.Realtime message)) result out.old out.new }
 {
     if !is_running(state) {
         return Err(Refusal::BadStore);
@@ -119,7 +116,7 @@ pub fn write_realtime(
 
 // Writes a frame, which is given as its bytes from F0 to F7. Refuses 20 for the state, then 1, 2, then 19 beyond the frame limit, then 14.
 pub fn write_frame(state: Option<u8>, frame: &[u8], out: &mut [u8]) -> Result<Emitted, Refusal>
-    ensures { Emits (frame_out state frame.now (length out.old)) (state_behind state (OfMessage (Frame (body frame.now)))) result out.old out.new }
+    ensures { Emits state (frame_bytes frame.now) result out.old out.new }
 {
     if !is_running(state) {
         return Err(Refusal::BadStore);

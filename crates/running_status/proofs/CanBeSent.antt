@@ -18,10 +18,10 @@ use Rattle.framing.specs.Framing.{first_high}
 use Rattle.framing.proofs.Bytes.{body_is, ends_framed}
 use Rattle.damage.specs.Sent.{Voice, Common, Frame, bytes_of, seven_bit, sendable}
 use Rattle.running_status.specs.declared.Outgoing.TheVariants as o
-use Rattle.running_status.specs.RunningStatus.{is_running, shortened, Item, OfMessage, OfRealtime, state_behind}
+use Rattle.running_status.specs.RunningStatus.{is_running, shortened, Item, OfMessage, OfRealtime, state_behind, Handed, plain, frame_bytes, item_handed, handed_out}
 use Rattle.running_status.specs.Chain.{items_fit}
-use Rattle.running_status.specs.Sending.{Handed, plain, frame_bytes, item_handed, handed_out, Sending, no_call, one_call}
-use Rattle.running_status.proofs.Waiting.{channel_fits}
+use Rattle.running_status.specs.Sending.{Sending, no_call, one_call}
+use Rattle.running_status.proofs.ChannelStatus.{channel_fits}
 use Rattle.running_status.proofs.Sends.{accepted_writes}
 
 -- seven bits each: no high byte
