@@ -36,7 +36,7 @@ item_passed st (o.Channel c m) next w fine e =
     let small : c.0 < 16 = ltb-true _ _ (passed (ltb c.0 16) 17 _ next w e) in
     (passed_on (ltb c.0 16) 17 _ next w e, voice_in_force c m small)
 item_passed st (o.Common k v) next w fine e = (passed_on (common_in_range (common k v)) 21 _ next w e, refl)
-item_passed st (o.Realtime x) next w fine e = (e, fine)
+item_passed st (o.Realtime x) next w fine e = (e, cc)
 
 -- a frame is written whole
 frame_whole : (st : Option ℕ) (xs : List ℕ) → shortened st (Frame xs) ≡ bytes_of (Frame xs)
