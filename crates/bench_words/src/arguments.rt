@@ -1,15 +1,60 @@
 // A request taken apart: words stand between single spaces, numbers are decimal, bytes are plain hexadecimal, `-` for none.
 use ids::DeviceId;
-use std::alloc::{AllocError, Global};
 
 // So many bytes are read of one word at most.
 pub const MOST_BYTES: usize = 4096;
 
-// What is left of a request, and where what is read of it is put. Each call reads a value at its front, up to where the value ends, and goes on behind
-// the next space.
+// Bytes in a room of their own.
+#[derive(Clone, Copy)]
+pub struct Bytes {
+    room: [u8; MOST_BYTES],
+    len: usize,
+}
+
+impl Bytes {
+    fn new() -> Bytes {
+        Bytes {
+            room: [0; MOST_BYTES],
+            len: 0,
+        }
+    }
+
+    // One byte more, where it has room.
+    fn push(&mut self, byte: u8) {
+        if self.len < MOST_BYTES {
+            self.room[self.len] = byte;
+            self.len += 1;
+        }
+    }
+
+    pub fn as_slice(&self) -> &[u8] {
+        text::front(&self.room, self.len)
+    }
+
+    pub fn as_mut_slice(&mut self) -> &mut [u8] {
+        let len = self.len.min(MOST_BYTES);
+        &mut self.room[..len]
+    }
+}
+
+// Numbers with commas between them, from the first again behind the last.
+#[derive(Clone, Copy)]
+pub struct Numbers<'a> {
+    all: &'a [u8],
+    rest: &'a [u8],
+}
+
+impl Numbers<'_> {
+    pub fn next(&mut self) -> u64 {
+        let (number, rest) = text::split_once(self.rest, b',').unwrap_or((self.rest, self.all));
+        self.rest = rest;
+        number_of(number)
+    }
+}
+
+// What is left of a request. Each call reads a value at its front, up to where the value ends, and goes on behind the next space.
 #[derive(Clone, Copy)]
 pub struct Arguments<'a> {
-    pub alloc: Global,
     pub rest: &'a [u8],
 }
 
@@ -37,22 +82,22 @@ impl<'a> Arguments<'a> {
         }
     }
 
-    pub fn bytes(&mut self) -> Result<Vec<u8>, AllocError> {
+    pub fn bytes(&mut self) -> Bytes {
         let (pairs, _) = self.front().as_chunks::<2>();
-        pairs
-            .iter()
-            .map_while(|pair| paired(*pair))
-            .take(MOST_BYTES)
-            .collect(self.alloc)
+        let mut bytes = Bytes::new();
+        for pair in pairs {
+            match paired(*pair) {
+                Some(byte) => bytes.push(byte),
+                None => break,
+            }
+        }
+        bytes
     }
 
-    // Numbers with commas between them.
-    pub fn numbers(&mut self) -> Result<Vec<u64>, AllocError> {
-        let all = self.front();
-        let word = text::split_once(all, b' ').map_or(all, |(word, _)| word);
-        word.split(|byte| *byte == b',')
-            .map(number_of)
-            .collect(self.alloc)
+    pub fn numbers(&mut self) -> Numbers<'a> {
+        let front = self.front();
+        let all = text::split_once(front, b' ').map_or(front, |(word, _)| word);
+        Numbers { all, rest: all }
     }
 }
 

@@ -9,9 +9,12 @@ mod wires;
 mod word;
 
 use arguments::Arguments;
-use said::{Failure, No};
-use std::alloc::{AllocError, Global};
+use said::No;
+use text::Text;
 pub use word::Word;
+
+// An answer's text; no recorded one is longer than the room, and of a longer one the rest is left out.
+pub type Answer = Text<16384>;
 
 // A request: its word, where it is one of the bench's, and what the word is asked.
 #[derive(Clone, Copy)]
@@ -34,16 +37,15 @@ impl<'a> Request<'a> {
         }
     }
 
-    // The answer's text; it is empty where the word is not one of the bench's.
-    pub fn answer(self, alloc: Global) -> Result<String, AllocError> {
+    // Leaves the answer's text alone in a room; it is empty where the word is not one of the bench's.
+    pub fn answer(self, answer: &mut Answer) {
+        answer.clear();
         let Some(word) = self.word else {
-            return Ok(String::new(alloc));
+            return;
         };
         let rest = self.rest;
-        match word.answer(Arguments { alloc, rest }) {
-            Ok(answer) => Ok(answer),
-            Err(Failure::Refused(refusal)) => format!(in alloc; "{}", No(refusal)),
-            Err(Failure::OutOfMemory(e)) => Err(e),
+        if let Err(refusal) = word.answer(Arguments { rest }, answer) {
+            write!(answer, "{}", No(refusal));
         }
     }
 }

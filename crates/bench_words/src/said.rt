@@ -1,41 +1,19 @@
 // Answers as the bench writes them.
+use crate::Answer;
 use refusal::Refusal;
-use std::alloc::{AllocError, Global};
 use std::fmt;
 use text::Hex;
 use text::refusals::Details;
 
-// Why a word has no `ok`: its arguments were refused, or memory ran out.
-#[derive(Clone, Copy, Debug, PartialEq, Eq)]
-pub enum Failure {
-    Refused(Refusal),
-    OutOfMemory(AllocError),
-}
-
-impl From<Refusal> for Failure {
-    fn from(refusal: Refusal) -> Failure {
-        Failure::Refused(refusal)
-    }
-}
-
-impl From<AllocError> for Failure {
-    fn from(error: AllocError) -> Failure {
-        Failure::OutOfMemory(error)
-    }
-}
-
 // `ok` and what was asked for.
-pub fn ok<T: fmt::Display + Drop>(alloc: Global, value: T) -> Result<String, Failure> {
-    Ok(format!(in alloc; "ok {value}")?)
+pub fn ok<T: fmt::Display + Drop>(answer: &mut Answer, value: T) {
+    write!(answer, "ok {value}");
 }
 
-pub fn ok_or_none<T: fmt::Display + Drop>(
-    alloc: Global,
-    value: Option<T>,
-) -> Result<String, Failure> {
+pub fn ok_or_none<T: fmt::Display + Drop>(answer: &mut Answer, value: Option<T>) {
     match value {
-        Some(value) => ok(alloc, value),
-        None => ok(alloc, "none"),
+        Some(value) => ok(answer, value),
+        None => ok(answer, "none"),
     }
 }
 
@@ -67,11 +45,10 @@ impl fmt::Display for Listed<'_> {
 }
 
 // What a writer answered, and the whole buffer that it was lent.
-pub fn wrote(alloc: Global, count: Result<usize, Refusal>, lent: &[u8]) -> Result<String, Failure> {
+pub fn wrote(answer: &mut Answer, count: Result<usize, Refusal>, lent: &[u8]) {
     let lent = Listed(lent);
-    let said = match count {
-        Ok(n) => format!(in alloc; "ok {n} | {lent}")?,
-        Err(e) => format!(in alloc; "{} | {lent}", No(e))?,
-    };
-    Ok(said)
+    match count {
+        Ok(n) => write!(answer, "ok {n} | {lent}"),
+        Err(e) => write!(answer, "{} | {lent}", No(e)),
+    }
 }

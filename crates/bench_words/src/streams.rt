@@ -1,10 +1,9 @@
 // The words of the decoder, from a fresh one each time.
+use crate::Answer;
 use crate::arguments::Arguments;
-use crate::said::Failure;
 use decoder::{Decoder, MAX_SYSEX_LEN, Report};
 use decoder_in_place::Taken;
-use refusal::OfByte;
-use std::alloc::{AllocError, Global};
+use refusal::{OfByte, Refusal};
 use std::fmt;
 use text::Hex;
 use wire::{Channel, ChannelMessage, SystemCommon};
@@ -68,30 +67,27 @@ fn tell_channel<W: fmt::Write>(
     }
 }
 
-// How far a stream has come: the decoder and its store, the place of the next byte where places are asked for, and the answer so far.
-// Drop alone, since a String is not copied.
-#[derive(Drop)]
+// How far a stream has come: the decoder and its store, and the place of the next byte where places are asked for.
+#[derive(Clone, Copy)]
 struct Stream {
     state: Decoder,
     store: [u8; MAX_SYSEX_LEN],
     place: Option<u64>,
-    answer: String,
 }
 
 impl Stream {
-    fn new(alloc: Global, place: Option<u64>) -> Result<Stream, AllocError> {
-        Ok(Stream {
+    fn new(place: Option<u64>) -> Stream {
+        Stream {
             state: Decoder::new(),
             store: [0xAA; MAX_SYSEX_LEN],
             place,
-            answer: String::from_str(alloc, "ok")?,
-        })
+        }
     }
 
     // Calls until all bytes are used, and then answers true; it stops where a call is refused. Places are u64, to
     // which no From leads from usize. The monitor has this loop too: what it does with a report differs, and one function
     // for both, with a closure for it, would be as long.
-    fn take(&mut self, bytes: &[u8]) -> Result<bool, AllocError> {
+    fn take(&mut self, bytes: &[u8], answer: &mut Answer) -> bool {
         let mut rest = bytes;
         while let Some((taken, next)) = decoder_in_place::feed_front(
             &mut self.state,
@@ -101,70 +97,70 @@ impl Stream {
             self.place = self
                 .place
                 .map(|place| place.wrapping_add(taken.used as u64));
-            self.tell_all(taken)?;
+            self.tell_all(taken, answer);
             rest = next;
         }
-        Ok(rest.is_empty())
+        rest.is_empty()
     }
 
     // The reports of one call.
-    fn tell_all(&mut self, taken: Taken) -> Result<(), AllocError> {
+    fn tell_all(&self, taken: Taken, answer: &mut Answer) {
         if taken.interrupted {
-            self.tell(Report::SysExInterrupted)?;
+            self.tell(Report::SysExInterrupted, answer);
         }
-        match taken.report {
-            Some(report) => self.tell(report),
-            None => Ok(()),
+        if let Some(report) = taken.report {
+            self.tell(report, answer);
         }
     }
 
     // A report, behind the place of the byte that gave it.
-    fn tell(&mut self, report: Report) -> Result<(), AllocError> {
+    fn tell(&self, report: Report, answer: &mut Answer) {
         let told = BenchReport {
             store: &self.store,
             report,
         };
         match self.place {
-            Some(next) => write!(self.answer, " {}:{told}", next.wrapping_sub(1)),
-            None => write!(self.answer, " {told}"),
+            Some(next) => write!(answer, " {}:{told}", next.wrapping_sub(1)),
+            None => write!(answer, " {told}"),
         }
-    }
-
-    // The answer, with a mark that no recorded one has where bytes were left over.
-    fn answer(self, all_used: bool) -> Result<String, AllocError> {
-        let mut answer = self.answer;
-        if !all_used {
-            answer.push('!')?;
-        }
-        Ok(answer)
     }
 }
 
-pub fn feed(mut ask: Arguments<'_>) -> Result<String, Failure> {
-    let bytes = ask.bytes()?;
-    let mut stream = Stream::new(ask.alloc, Some(0))?;
-    let all_used = stream.take(bytes.as_slice())?;
-    let open = u8::from(stream.state.in_sysex);
-    let mut answer = stream.answer(all_used)?;
-    write!(answer, " open={open}")?;
-    Ok(answer)
+// A mark that no recorded answer has, where bytes were left over.
+fn end(answer: &mut Answer, all_used: bool) {
+    if !all_used {
+        answer.put_byte(b'!');
+    }
+}
+
+pub fn feed(mut ask: Arguments<'_>, answer: &mut Answer) -> Result<(), Refusal> {
+    let bytes = ask.bytes();
+    let mut stream = Stream::new(Some(0));
+    answer.put_str("ok");
+    let all_used = stream.take(bytes.as_slice(), answer);
+    end(answer, all_used);
+    write!(answer, " open={}", u8::from(stream.state.in_sysex));
+    Ok(())
 }
 
 // The bytes in pieces of the sizes that are listed, from the first size again behind the last. A size is cast, since no From leads from u64 to
 // usize.
-pub fn chunks(mut ask: Arguments<'_>) -> Result<String, Failure> {
-    let sizes = ask.numbers()?;
-    let bytes = ask.bytes()?;
-    let mut stream = Stream::new(ask.alloc, None)?;
+pub fn chunks(mut ask: Arguments<'_>, answer: &mut Answer) -> Result<(), Refusal> {
+    let mut sizes = ask.numbers();
+    let bytes = ask.bytes();
+    let mut stream = Stream::new(None);
     let mut all_used = true;
     let mut rest = bytes.as_slice();
-    for size in sizes.iter().copied().cycle().take(65536) {
+    answer.put_str("ok");
+    for _ in 0..65536 {
         if rest.is_empty() {
             break;
         }
-        let (piece, next) = rest.split_at(rest.len().min(size as usize));
-        all_used &= stream.take(piece)?;
+        let size = sizes.next() as usize;
+        let (piece, next) = rest.split_at(rest.len().min(size));
+        all_used &= stream.take(piece, answer);
         rest = next;
     }
-    Ok(stream.answer(all_used && rest.is_empty())?)
+    end(answer, all_used && rest.is_empty());
+    Ok(())
 }

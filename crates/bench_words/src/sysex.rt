@@ -1,19 +1,19 @@
 // The words of frames.
-use crate::arguments::{Arguments, MOST_BYTES};
-use crate::said::{Failure, Listed};
-use crate::wires;
+use crate::arguments::{Arguments, Bytes, MOST_BYTES};
+use crate::said::Listed;
+use crate::{Answer, wires};
 use ids::DeviceId;
 use message::Fields;
-use refusal::OfByte;
-use std::alloc::Global;
+use refusal::{OfByte, Refusal};
 
 // Every field by its name, then the run; a mark that no recorded answer has, where the frame is not written again as the same bytes.
-fn read(alloc: Global, bytes: &[u8]) -> Result<String, Failure> {
+fn read(bytes: &[u8], answer: &mut Answer) -> Result<(), Refusal> {
     let frame = frame_reader::parse(bytes)?;
     let device = frame.device;
     let head = frame.head;
     let fields = head.to_fields();
-    Ok(format!(in alloc;
+    write!(
+        answer,
         "ok dev={} cmd={} free={} ver={} bank={} prog={} last={} pat={} has={} ifc={} rx={} tx={} run={}{}",
         device.to_byte(),
         head.command().to_byte(),
@@ -29,7 +29,8 @@ fn read(alloc: Global, bytes: &[u8]) -> Result<String, Failure> {
         fields.tx,
         Listed(frame_reader::run_of(bytes)),
         if stays(bytes) { "" } else { "!" }
-    )?)
+    );
+    Ok(())
 }
 
 // Is a frame that the reader takes the same bytes when it is written again?
@@ -41,20 +42,20 @@ fn stays(bytes: &[u8]) -> bool {
     }
 }
 
-pub fn frame(mut ask: Arguments<'_>) -> Result<String, Failure> {
-    read(ask.alloc, ask.bytes()?.as_slice())
+pub fn frame(mut ask: Arguments<'_>, answer: &mut Answer) -> Result<(), Refusal> {
+    read(ask.bytes().as_slice(), answer)
 }
 
-// A record as the words `fwrite` and `readback` list it, and its run. Drop alone, since a Vec is not copied.
-#[derive(Drop)]
+// A record as the words `fwrite` and `readback` list it, and its run.
+#[derive(Clone, Copy)]
 struct Hand {
     device: DeviceId,
     command: u8,
     fields: Fields,
-    run: Vec<u8>,
+    run: Bytes,
 }
 
-fn listed(ask: &mut Arguments<'_>) -> Result<Hand, Failure> {
+fn listed(ask: &mut Arguments<'_>) -> Hand {
     let device = ask.device();
     let command = ask.byte();
     let fields = Fields {
@@ -69,38 +70,38 @@ fn listed(ask: &mut Arguments<'_>) -> Result<Hand, Failure> {
         rx: ask.byte(),
         tx: ask.byte(),
     };
-    let run = ask.bytes()?;
-    Ok(Hand {
+    let run = ask.bytes();
+    Hand {
         device,
         command,
         fields,
         run,
-    })
+    }
 }
 
 // By the writer of plain fields.
-pub fn frame_write(mut ask: Arguments<'_>) -> Result<String, Failure> {
+pub fn frame_write(mut ask: Arguments<'_>, answer: &mut Answer) -> Result<(), Refusal> {
     let Hand {
         device,
         command,
         fields,
         run,
-    } = listed(&mut ask)?;
-    wires::written(ask, |lent| {
+    } = listed(&mut ask);
+    wires::written(ask, answer, |lent| {
         frame_writer::write_record(device, command, fields, run.as_slice(), lent)
     })
 }
 
 // By the writer of messages, to the front of a buffer with room for every frame; what was written is read.
-pub fn read_back(mut ask: Arguments<'_>) -> Result<String, Failure> {
+pub fn read_back(mut ask: Arguments<'_>, answer: &mut Answer) -> Result<(), Refusal> {
     let Hand {
         device,
         command,
         fields,
         run,
-    } = listed(&mut ask)?;
+    } = listed(&mut ask);
     let mut space = [0u8; MOST_BYTES];
     let frame = message::head::from_record(device, command, fields)?;
     let count = frame_writer::encode_into(frame, run.as_slice(), &mut space)?;
-    read(ask.alloc, text::front(&space, count))
+    read(text::front(&space, count), answer)
 }

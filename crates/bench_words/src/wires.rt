@@ -1,84 +1,97 @@
 // Packed runs, channel messages and identity: the words of bytes.
+use crate::Answer;
 use crate::arguments::Arguments;
-use crate::said::{Failure, ok, wrote};
+use crate::said::{ok, wrote};
 use inquiry::{Identity, Version};
 use refusal::{OfByte, Refusal};
 use wire::{Channel, ChannelMessage};
 
 // A length is cast, since no From leads from u64 to usize.
-pub fn packed_len(mut ask: Arguments<'_>) -> Result<String, Failure> {
-    ok(ask.alloc, packed::packed_len(ask.number() as usize)?)
+pub fn packed_len(mut ask: Arguments<'_>, answer: &mut Answer) -> Result<(), Refusal> {
+    ok(answer, packed::packed_len(ask.number() as usize)?);
+    Ok(())
 }
 
 // A length is cast, since no From leads from u64 to usize.
-pub fn unpacked_len(mut ask: Arguments<'_>) -> Result<String, Failure> {
-    ok(ask.alloc, packed::unpacked_len(ask.number() as usize)?)
+pub fn unpacked_len(mut ask: Arguments<'_>, answer: &mut Answer) -> Result<(), Refusal> {
+    ok(answer, packed::unpacked_len(ask.number() as usize)?);
+    Ok(())
 }
 
 // What a writer answers that is lent the bytes that stand next.
 pub fn written<F: FnOnce(&mut [u8]) -> Result<usize, Refusal>>(
     mut ask: Arguments<'_>,
+    answer: &mut Answer,
     write: F,
-) -> Result<String, Failure>
+) -> Result<(), Refusal>
     requires { F.IsAlwaysCallable write }
 {
-    let mut lent = ask.bytes()?;
+    let mut lent = ask.bytes();
     let count = write(lent.as_mut_slice());
-    wrote(ask.alloc, count, lent.as_slice())
+    wrote(answer, count, lent.as_slice());
+    Ok(())
 }
 
 // What a writer makes of bytes.
 pub fn turned<F: FnOnce(&[u8], &mut [u8]) -> Result<usize, Refusal>>(
     mut ask: Arguments<'_>,
+    answer: &mut Answer,
     write: F,
-) -> Result<String, Failure>
+) -> Result<(), Refusal>
     requires { F.IsAlwaysCallable write }
 {
-    let bytes = ask.bytes()?;
-    written(ask, |lent| write(bytes.as_slice(), lent))
+    let bytes = ask.bytes();
+    written(ask, answer, |lent| write(bytes.as_slice(), lent))
 }
 
 // The message of a nibble and its data, on a channel. The first number is a bend's value, and a nibble of no other message makes a bend. The value
 // is cast, since From does not narrow.
-pub fn channel_message(mut ask: Arguments<'_>) -> Result<String, Failure> {
+pub fn channel_message(mut ask: Arguments<'_>, answer: &mut Answer) -> Result<(), Refusal> {
     let nibble = ask.byte();
     let channel = Channel(ask.byte());
     let value = (ask.number() % 65536) as u16;
     let message = ChannelMessage::from_nibble(nibble, value, ask.byte()).unwrap_or(
         ChannelMessage::PitchBend { value },
     );
-    written(ask, |lent| message.encode_into(channel, lent))
+    written(ask, answer, |lent| message.encode_into(channel, lent))
 }
 
-pub fn inquiry_request(mut ask: Arguments<'_>) -> Result<String, Failure> {
-    let bytes = ask.bytes()?;
+pub fn inquiry_request(mut ask: Arguments<'_>, answer: &mut Answer) -> Result<(), Refusal> {
+    let bytes = ask.bytes();
     let device = inquiry::request::parse_request(bytes.as_slice())?;
-    ok(ask.alloc, device.to_byte())
+    ok(answer, device.to_byte());
+    Ok(())
 }
 
-pub fn inquiry_reply(mut ask: Arguments<'_>) -> Result<String, Failure> {
-    let bytes = ask.bytes()?;
+pub fn inquiry_reply(mut ask: Arguments<'_>, answer: &mut Answer) -> Result<(), Refusal> {
+    let bytes = ask.bytes();
     let Identity {
         device,
         firmware,
         voice,
     } = inquiry::reply::parse_reply(bytes.as_slice())?;
-    Ok(format!(in ask.alloc;
+    write!(
+        answer,
         "ok dev={} fw={}.{} voice={},{}",
         device.to_byte(),
         firmware.major,
         firmware.minor,
         voice.major,
         voice.minor
-    )?)
+    );
+    Ok(())
 }
 
-pub fn write_request(mut ask: Arguments<'_>) -> Result<String, Failure> {
+pub fn write_request(mut ask: Arguments<'_>, answer: &mut Answer) -> Result<(), Refusal> {
     let device = ask.device();
-    written(ask, |lent| inquiry::request::request_into(device, lent))
+    written(
+        ask,
+        answer,
+        |lent| inquiry::request::request_into(device, lent),
+    )
 }
 
-pub fn write_reply(mut ask: Arguments<'_>) -> Result<String, Failure> {
+pub fn write_reply(mut ask: Arguments<'_>, answer: &mut Answer) -> Result<(), Refusal> {
     let device = ask.device();
     let firmware = version(&mut ask);
     let voice = version(&mut ask);
@@ -87,7 +100,11 @@ pub fn write_reply(mut ask: Arguments<'_>) -> Result<String, Failure> {
         firmware,
         voice,
     };
-    written(ask, |lent| inquiry::reply::reply_into(identity, lent))
+    written(
+        ask,
+        answer,
+        |lent| inquiry::reply::reply_into(identity, lent),
+    )
 }
 
 fn version(ask: &mut Arguments<'_>) -> Version {

@@ -1,10 +1,10 @@
 // The bench's words.
 use crate::arguments::Arguments;
-use crate::said::{Failure, ok, ok_or_none};
-use crate::{streams, sysex, wires};
+use crate::said::{ok, ok_or_none};
+use crate::{Answer, streams, sysex, wires};
 use command::Command;
 use ids::{Bank, DeviceId, Interface, PatternNumber, ProgramNumber, ProtocolVersion};
-use refusal::OfByte;
+use refusal::{OfByte, Refusal};
 use wire::{Channel, ChannelMessage, Realtime};
 
 // A word that begins a request.
@@ -106,56 +106,60 @@ impl Word {
     }
 
     // What the word says to its arguments.
-    pub(crate) fn answer(self, ask: Arguments<'_>) -> Result<String, Failure> {
+    pub(crate) fn answer(self, ask: Arguments<'_>, answer: &mut Answer) -> Result<(), Refusal> {
         match self {
-            Word::Bank => small::<Bank>(ask),
-            Word::Program => small::<ProgramNumber>(ask),
-            Word::Pattern => small::<PatternNumber>(ask),
-            Word::Version => small::<ProtocolVersion>(ask),
-            Word::Device => small::<DeviceId>(ask),
-            Word::Channel => small::<Channel>(ask),
-            Word::Interface => small::<Interface>(ask),
-            Word::Command => small::<Command>(ask),
-            Word::RawLen => raw_len(ask),
-            Word::DataLen => data_len(ask),
-            Word::Realtime => realtime(ask),
-            Word::PackedLen => wires::packed_len(ask),
-            Word::UnpackedLen => wires::unpacked_len(ask),
-            Word::Pack => wires::turned(ask, packed::packing::pack_into),
-            Word::Unpack => wires::turned(ask, packed::unpacking::unpack_into),
-            Word::Chan => wires::channel_message(ask),
-            Word::Feed => streams::feed(ask),
-            Word::Chunks => streams::chunks(ask),
-            Word::Frame => sysex::frame(ask),
-            Word::FrameWrite => sysex::frame_write(ask),
-            Word::ReadBack => sysex::read_back(ask),
-            Word::InquiryRequest => wires::inquiry_request(ask),
-            Word::InquiryReply => wires::inquiry_reply(ask),
-            Word::WriteRequest => wires::write_request(ask),
-            Word::WriteReply => wires::write_reply(ask),
+            Word::Bank => small::<Bank>(ask, answer),
+            Word::Program => small::<ProgramNumber>(ask, answer),
+            Word::Pattern => small::<PatternNumber>(ask, answer),
+            Word::Version => small::<ProtocolVersion>(ask, answer),
+            Word::Device => small::<DeviceId>(ask, answer),
+            Word::Channel => small::<Channel>(ask, answer),
+            Word::Interface => small::<Interface>(ask, answer),
+            Word::Command => small::<Command>(ask, answer),
+            Word::RawLen => raw_len(ask, answer),
+            Word::DataLen => data_len(ask, answer),
+            Word::Realtime => realtime(ask, answer),
+            Word::PackedLen => wires::packed_len(ask, answer),
+            Word::UnpackedLen => wires::unpacked_len(ask, answer),
+            Word::Pack => wires::turned(ask, answer, packed::packing::pack_into),
+            Word::Unpack => wires::turned(ask, answer, packed::unpacking::unpack_into),
+            Word::Chan => wires::channel_message(ask, answer),
+            Word::Feed => streams::feed(ask, answer),
+            Word::Chunks => streams::chunks(ask, answer),
+            Word::Frame => sysex::frame(ask, answer),
+            Word::FrameWrite => sysex::frame_write(ask, answer),
+            Word::ReadBack => sysex::read_back(ask, answer),
+            Word::InquiryRequest => wires::inquiry_request(ask, answer),
+            Word::InquiryReply => wires::inquiry_reply(ask, answer),
+            Word::WriteRequest => wires::write_request(ask, answer),
+            Word::WriteReply => wires::write_reply(ask, answer),
         }
     }
 }
 
 // A byte read as a small number or a name, and written back.
-fn small<T: OfByte>(mut ask: Arguments<'_>) -> Result<String, Failure> {
-    ok(ask.alloc, T::from_byte(ask.byte())?.to_byte())
+fn small<T: OfByte>(mut ask: Arguments<'_>, answer: &mut Answer) -> Result<(), Refusal> {
+    ok(answer, T::from_byte(ask.byte())?.to_byte());
+    Ok(())
 }
 
-fn raw_len(mut ask: Arguments<'_>) -> Result<String, Failure> {
+fn raw_len(mut ask: Arguments<'_>, answer: &mut Answer) -> Result<(), Refusal> {
     ok(
-        ask.alloc,
+        answer,
         ProtocolVersion::from_byte(ask.byte())?.program_data_len(),
-    )
+    );
+    Ok(())
 }
 
-fn data_len(mut ask: Arguments<'_>) -> Result<String, Failure> {
-    ok_or_none(ask.alloc, ChannelMessage::data_len_for(ask.byte()))
+fn data_len(mut ask: Arguments<'_>, answer: &mut Answer) -> Result<(), Refusal> {
+    ok_or_none(answer, ChannelMessage::data_len_for(ask.byte()));
+    Ok(())
 }
 
-fn realtime(mut ask: Arguments<'_>) -> Result<String, Failure> {
+fn realtime(mut ask: Arguments<'_>, answer: &mut Answer) -> Result<(), Refusal> {
     ok_or_none(
-        ask.alloc,
+        answer,
         Realtime::from_status(ask.byte()).map(|message| message.to_status()),
-    )
+    );
+    Ok(())
 }

@@ -7,12 +7,15 @@ ghost use Rattle.decoder.specs.Call.{reports};
 use crate::{Class, Decoder, MAX_SYSEX_LEN, Report, Stepped};
 use wire::{Channel, ChannelMessage, Realtime, SystemCommon};
 
+// Data bytes, of which a frame is full, are told first: a `match` tests its single values ahead of its ranges.
 #[tactic(auto, unfolding(crate::specs::Step::class_of))]
 pub fn class_of(byte: u8) -> Class
     ensures { result ≡ class_of byte }
 {
+    if byte < 0x80 {
+        return Class::Data;
+    }
     match byte {
-        0x00..0x80 => Class::Data,
         0x80..0xF0 => Class::Held,
         0xF0 => Class::Start,
         0xF1..0xF4 => Class::Held,

@@ -74,7 +74,9 @@ impl<'a, R: Print + Eprint + AllocGlobal> Monitor<'a, R> {
             return Ok(());
         }
         let last = self.place.wrapping_sub(1);
-        self.rt.println(monitor_words::line(self.rt.alloc(), last, &self.store, report)?)
+        let mut line = monitor_words::line(last, &self.store, report);
+        line.put_bytes(b"\n");
+        self.rt.write_all(line.as_bytes())
     }
 
     // A frame that is still open when the input ends.

@@ -1,72 +1,58 @@
 // Frames, identity requests and replies, and why a frame is refused.
+use crate::{Line, put_labelled};
 use command::Command;
 use ids::{Bank, DeviceId, ProgramNumber};
 use inquiry::identity::NON_REALTIME;
 use inquiry::{Identity, Version};
 use message::{FrameHead, Head};
 use refusal::{OfByte, Refusal};
-use std::fmt;
-use text::refusals::{Details, word};
+use text::refusals::word;
 
 // What a frame says, as the frame reader and the inquiry's readers have it.
-#[derive(Clone, Copy)]
-pub struct FrameWords<'a>(pub &'a [u8]);
-
-impl fmt::Display for FrameWords<'_> {
-    fn fmt<W: fmt::Write>(&self, f: &mut fmt::Formatter<W>) -> fmt::Result {
-        let bytes = self.0;
-        if bytes.get(1) == Some(&NON_REALTIME) {
-            return universal_words(f, bytes);
-        }
-        match frame_reader::parse(bytes) {
-            Ok(frame) => frame_words(f, frame, frame_reader::run_of(bytes).len()),
-            Err(e) => refused(f, e),
-        }
+pub fn put_words(line: &mut Line, bytes: &[u8]) {
+    if bytes.get(1) == Some(&NON_REALTIME) {
+        return put_universal(line, bytes);
+    }
+    match frame_reader::parse(bytes) {
+        Ok(frame) => put_frame(line, frame, frame_reader::run_of(bytes).len()),
+        Err(e) => put_refused(line, e),
     }
 }
 
 // The number, the trade's word and the details.
-fn refused<W: fmt::Write>(f: &mut fmt::Formatter<W>, refusal: Refusal) -> fmt::Result {
-    write!(
-        f,
-        "refused: {} {}{}",
-        refusal.number(),
-        word(refusal),
-        Details(refusal)
-    )
-}
-
-#[derive(Clone, Copy)]
-struct Device(DeviceId);
-
-impl fmt::Display for Device {
-    fn fmt<W: fmt::Write>(&self, f: &mut fmt::Formatter<W>) -> fmt::Result {
-        match self.0 {
-            DeviceId::Unit(unit) => write!(f, "unit {unit}"),
-            DeviceId::Broadcast => f.write_str("everyone"),
+fn put_refused(line: &mut Line, refusal: Refusal) {
+    put_labelled(line, "refused: ", u64::from(refusal.number()));
+    line.put_byte(b' ');
+    line.put_str(word(refusal));
+    for detail in refusal.details() {
+        if let Some(value) = detail {
+            put_labelled(line, " ", value);
         }
     }
 }
 
-// The command, its version where it has one, the device, the fields, and how long the run is where there is one.
-fn frame_words<W: fmt::Write>(
-    f: &mut fmt::Formatter<W>,
-    frame: FrameHead,
-    run_len: usize,
-) -> fmt::Result {
-    let device = Device(frame.device);
+fn put_device(line: &mut Line, device: DeviceId) {
+    match device {
+        DeviceId::Unit(unit) => put_labelled(line, "unit ", u64::from(unit)),
+        DeviceId::Broadcast => line.put_str("everyone"),
+    }
+}
+
+// The command, its version where it has one, the device, the fields, and how long the run is where there is one. A length is cast, since no From
+// leads from usize to u64.
+fn put_frame(line: &mut Line, frame: FrameHead, run_len: usize) {
     let head = frame.head;
-    let name = command_name(head.command());
-    let fields = FieldWords(head);
-    match head.version() {
-        None => write!(f, "{name}, to {device}{fields}"),
-        Some(version) => {
-            let number = version.to_byte();
-            write!(
-                f,
-                "{name}, version {number}, to {device}{fields}, {run_len} packed bytes"
-            )
-        }
+    let version = head.version();
+    line.put_str(command_name(head.command()));
+    if let Some(version) = version {
+        put_labelled(line, ", version ", u64::from(version.to_byte()));
+    }
+    line.put_str(", to ");
+    put_device(line, frame.device);
+    put_fields(line, head);
+    if version.is_some() {
+        put_labelled(line, ", ", run_len as u64);
+        line.put_str(" packed bytes");
     }
 }
 
@@ -97,96 +83,77 @@ fn command_name(command: Command) -> &'static str {
     }
 }
 
-// A bank and a program of it, each behind a comma.
-#[derive(Clone, Copy)]
-struct InBank(Bank, ProgramNumber);
+fn put_byte(line: &mut Line, label: &str, byte: u8) {
+    put_labelled(line, label, u64::from(byte));
+}
 
-impl fmt::Display for InBank {
-    fn fmt<W: fmt::Write>(&self, f: &mut fmt::Formatter<W>) -> fmt::Result {
-        let bank = self.0.to_byte();
-        let program = self.1.to_byte();
-        write!(f, ", bank {bank}, program {program}")
-    }
+// A bank and a program of it, each behind a comma.
+fn put_in_bank(line: &mut Line, bank: Bank, program: ProgramNumber) {
+    put_byte(line, ", bank ", bank.to_byte());
+    put_byte(line, ", program ", program.to_byte());
 }
 
 // A message's fields but for the version, each behind a comma.
-#[derive(Clone, Copy)]
-struct FieldWords(Head);
-
-impl fmt::Display for FieldWords {
-    fn fmt<W: fmt::Write>(&self, f: &mut fmt::Formatter<W>) -> fmt::Result {
-        match self.0 {
-            Head::ControlAppNotifyRequest { reserved } => write!(f, ", free byte {reserved}"),
-            Head::ProgramDumpRequest { bank, program }
-            | Head::SingleProgramNameDumpRequest { bank, program }
-            | Head::ProgramDumpResponse { bank, program, .. } => {
-                write!(f, "{}", InBank(bank, program))
-            }
-            Head::ProgramBankDumpRequest { bank, first, last } => {
-                write!(f, "{} to {}", InBank(bank, first), last.to_byte())
-            }
-            Head::BankProgramNamesDumpRequest { bank }
-            | Head::BankProgramNamesDumpResponse { bank, .. }
-            | Head::SingleProgramNameDumpResponse { bank, .. } => {
-                write!(f, ", bank {}", bank.to_byte())
-            }
-            Head::SingleUserPatternDumpRequest { pattern }
-            | Head::UserPatternDumpResponse {
-                pattern: Some(pattern),
-                ..
-            } => write!(f, ", pattern {}", pattern.to_byte()),
-            Head::ControlAppNotifyResponse {
-                rx_channel,
-                tx_channel,
-                interface,
-                bank,
-                program,
-            } => write!(
-                f,
-                "{}, receives on {rx_channel}, sends on {tx_channel}, interface {}",
-                InBank(bank, program),
-                interface.to_byte()
-            ),
-            _ => Ok(()),
+fn put_fields(line: &mut Line, head: Head) {
+    match head {
+        Head::ControlAppNotifyRequest { reserved } => put_byte(line, ", free byte ", reserved),
+        Head::ProgramDumpRequest { bank, program }
+        | Head::SingleProgramNameDumpRequest { bank, program }
+        | Head::ProgramDumpResponse { bank, program, .. } => put_in_bank(line, bank, program),
+        Head::ProgramBankDumpRequest { bank, first, last } => {
+            put_in_bank(line, bank, first);
+            put_byte(line, " to ", last.to_byte());
         }
+        Head::BankProgramNamesDumpRequest { bank }
+        | Head::BankProgramNamesDumpResponse { bank, .. }
+        | Head::SingleProgramNameDumpResponse { bank, .. } => {
+            put_byte(line, ", bank ", bank.to_byte());
+        }
+        Head::SingleUserPatternDumpRequest { pattern }
+        | Head::UserPatternDumpResponse {
+            pattern: Some(pattern),
+            ..
+        } => put_byte(line, ", pattern ", pattern.to_byte()),
+        Head::ControlAppNotifyResponse {
+            rx_channel,
+            tx_channel,
+            interface,
+            bank,
+            program,
+        } => {
+            put_in_bank(line, bank, program);
+            put_byte(line, ", receives on ", rx_channel);
+            put_byte(line, ", sends on ", tx_channel);
+            put_byte(line, ", interface ", interface.to_byte());
+        }
+        _ => (),
     }
 }
 
 // A universal message: an identity request, or else it has to be a reply.
-fn universal_words<W: fmt::Write>(f: &mut fmt::Formatter<W>, bytes: &[u8]) -> fmt::Result {
+fn put_universal(line: &mut Line, bytes: &[u8]) {
     match inquiry::request::parse_request(bytes) {
-        Ok(device) => write!(f, "identity request to {}", Device(device)),
+        Ok(device) => {
+            line.put_str("identity request to ");
+            put_device(line, device);
+        }
         Err(Refusal::NotAnInquiryRequest) => match inquiry::reply::parse_reply(bytes) {
-            Ok(identity) => identity_words(f, identity),
-            Err(e) => refused(f, e),
+            Ok(identity) => put_identity(line, identity),
+            Err(e) => put_refused(line, e),
         },
-        Err(e) => refused(f, e),
+        Err(e) => put_refused(line, e),
     }
 }
 
-fn identity_words<W: fmt::Write>(f: &mut fmt::Formatter<W>, identity: Identity) -> fmt::Result {
-    let Identity {
-        device,
-        firmware,
-        voice,
-    } = identity;
-    write!(
-        f,
-        "identity reply of {}, firmware {}, voices {}",
-        Device(device),
-        Dotted(firmware),
-        Dotted(voice)
-    )
+fn put_identity(line: &mut Line, identity: Identity) {
+    line.put_str("identity reply of ");
+    put_device(line, identity.device);
+    put_version(line, ", firmware ", identity.firmware);
+    put_version(line, ", voices ", identity.voice);
 }
 
 // A version with a dot between its numbers.
-#[derive(Clone, Copy)]
-struct Dotted(Version);
-
-impl fmt::Display for Dotted {
-    fn fmt<W: fmt::Write>(&self, f: &mut fmt::Formatter<W>) -> fmt::Result {
-        let major = self.0.major;
-        let minor = self.0.minor;
-        write!(f, "{major}.{minor}")
-    }
+fn put_version(line: &mut Line, label: &str, version: Version) {
+    put_byte(line, label, version.major);
+    put_byte(line, ".", version.minor);
 }

@@ -5,10 +5,7 @@ mod frame;
 mod short;
 
 use decoder::Report;
-use short::{OnChannel, common_words, realtime_words};
-use std::alloc::{AllocError, Global};
-use std::fmt;
-use text::Hex;
+use text::Text;
 use wire::Realtime;
 
 // How wide the place is, and where a line's words begin.
@@ -16,64 +13,69 @@ const PLACE_WIDTH: usize = 10;
 
 const WORDS_COLUMN: usize = 42;
 
-// A message's bytes: up to ten whole, of more the first eight and the last.
-#[derive(Clone, Copy)]
-struct Bytes<'a>(&'a [u8]);
+// A line; the longest takes some 160 bytes.
+pub type Line = Text<256>;
 
-impl fmt::Display for Bytes<'_> {
-    fn fmt<W: fmt::Write>(&self, f: &mut fmt::Formatter<W>) -> fmt::Result {
-        let bytes = self.0;
-        match bytes.last() {
-            Some(last) if 10 < bytes.len() => {
-                let front = Hex {
-                    bytes: text::front(bytes, 8),
-                    behind: " ",
-                };
-                write!(f, "{front}.. {last:02x}")
-            }
-            _ => {
-                let all = Hex { bytes, behind: " " };
-                write!(f, "{all}")
-            }
+// A label and a number.
+fn put_labelled(line: &mut Line, label: &str, n: u64) {
+    line.put_str(label);
+    line.put_decimal(n);
+}
+
+// Bytes in hexadecimal, with a space behind each.
+fn put_spaced(line: &mut Line, bytes: &[u8]) {
+    for byte in bytes {
+        line.put_hex(*byte);
+        line.put_byte(b' ');
+    }
+}
+
+// A message's bytes: up to ten whole, of more the first eight and the last.
+fn put_message(line: &mut Line, bytes: &[u8]) {
+    match bytes.last() {
+        Some(last) if 10 < bytes.len() => {
+            put_spaced(line, text::front(bytes, 8));
+            line.put_str(".. ");
+            line.put_hex(*last);
         }
+        _ => put_spaced(line, bytes),
     }
 }
 
 // A report's words. A frame is the front of the store.
-#[derive(Clone, Copy)]
-struct ReportWords<'a> {
-    store: &'a [u8],
-    report: Report,
-}
-
-impl fmt::Display for ReportWords<'_> {
-    fn fmt<W: fmt::Write>(&self, f: &mut fmt::Formatter<W>) -> fmt::Result {
-        match self.report {
-            Report::SysEx(len) => write!(f, "{}", frame::FrameWords(text::front(self.store, len))),
-            Report::SysExInterrupted => {
-                f.write_str("damage: 18 SysExInterrupted, a frame broken off and dropped")
-            }
-            Report::SysExTooLong(limit) => write!(
-                f,
-                "damage: 19 SysExTooLong, a frame beyond {limit} bytes dropped"
-            ),
-            Report::Channel { channel, message } => write!(f, "{}", OnChannel { channel, message }),
-            Report::Common(message) => common_words(f, message),
-            Report::Realtime(message) => f.write_str(realtime_words(message)),
+fn put_words(line: &mut Line, store: &[u8], report: Report) {
+    match report {
+        Report::SysEx(len) => frame::put_words(line, text::front(store, len)),
+        Report::SysExInterrupted => {
+            line.put_str("damage: 18 SysExInterrupted, a frame broken off and dropped");
         }
+        Report::SysExTooLong(limit) => {
+            put_labelled(
+                line,
+                "damage: 19 SysExTooLong, a frame beyond ",
+                limit as u64,
+            );
+            line.put_str(" bytes dropped");
+        }
+        Report::Channel { channel, message } => short::put_channel(line, channel, message),
+        Report::Common(message) => short::put_common(line, message),
+        Report::Realtime(message) => line.put_str(short::realtime_words(message)),
     }
 }
 
 // The line of a report: the place of the byte that gave it, the message's bytes, and its words.
-pub fn line(alloc: Global, place: u64, store: &[u8], report: Report) -> Result<String, AllocError> {
+pub fn line(place: u64, store: &[u8], report: Report) -> Line {
     let mut room = [0u8; 3];
-    let encoded = short::encode(report, &mut room);
-    let bytes = match report {
-        Report::SysEx(len) => text::front(store, len),
-        _ => encoded,
-    };
-    let front = format!(in alloc; "{place:<PLACE_WIDTH$}{}", Bytes(bytes))?;
-    format!(in alloc; "{front:<WORDS_COLUMN$}{}", ReportWords { store, report })
+    let mut line = Line::new();
+    line.put_decimal(place);
+    line.pad(PLACE_WIDTH);
+    match report {
+        Report::SysEx(len) => put_message(&mut line, text::front(store, len)),
+        _ => put_message(&mut line, short::encode(report, &mut room)),
+    }
+    line.pad(WORDS_COLUMN);
+    put_words(&mut line, store, report);
+    line
 }
 
 // Is it clock or active sensing, the two that fill a capture?

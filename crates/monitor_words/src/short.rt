@@ -1,8 +1,8 @@
 // Channel, system common and real-time messages.
+use crate::{Line, put_labelled};
 use decoder::Report;
 use held_keys::Effect;
 use refusal::Refusal;
-use std::fmt;
 use wire::{Channel, ChannelMessage, CommonStatus, Realtime, SystemCommon};
 
 // The bytes of a message of one to three, written to the front of a buffer; none for any other report.
@@ -29,69 +29,65 @@ fn encode_common(message: SystemCommon, bytes: &mut [u8]) -> Result<usize, Refus
     status.encode_into(value, bytes)
 }
 
-// A channel message and its channel.
-#[derive(Clone, Copy)]
-pub struct OnChannel {
-    pub channel: Channel,
-    pub message: ChannelMessage,
-}
-
-impl fmt::Display for OnChannel {
-    fn fmt<W: fmt::Write>(&self, f: &mut fmt::Formatter<W>) -> fmt::Result {
-        let channel = self.channel.number();
-        match self.message {
-            ChannelMessage::NoteOff { key, velocity } => {
-                write!(
-                    f,
-                    "note off, channel {channel}, key {key}, velocity {velocity}"
-                )
-            }
-            ChannelMessage::NoteOn { key, velocity } => {
-                // One with velocity 0 releases its key.
-                let release = match held_keys::effect_of(self.message) {
-                    Effect::Release(_) => ", releases the key",
-                    Effect::Hold(_) | Effect::Nothing => "",
-                };
-                write!(
-                    f,
-                    "note on, channel {channel}, key {key}, velocity {velocity}{release}"
-                )
-            }
-            ChannelMessage::PolyKeyPressure { key, pressure } => {
-                write!(
-                    f,
-                    "key pressure, channel {channel}, key {key}, pressure {pressure}"
-                )
-            }
-            ChannelMessage::ControlChange { controller, value } => write!(
-                f,
-                "control change, channel {channel}, controller {controller}, value {value}"
-            ),
-            ChannelMessage::ProgramChange { program } => {
-                write!(f, "program change, channel {channel}, program {program}")
-            }
-            ChannelMessage::ChannelPressure { pressure } => {
-                write!(
-                    f,
-                    "channel pressure, channel {channel}, pressure {pressure}"
-                )
-            }
-            ChannelMessage::PitchBend { value } => {
-                write!(f, "pitch bend, channel {channel}, value {value}")
-            }
-        }
+// The name of a channel message.
+fn name(message: ChannelMessage) -> &'static str {
+    match message {
+        ChannelMessage::NoteOff { .. } => "note off",
+        ChannelMessage::NoteOn { .. } => "note on",
+        ChannelMessage::PolyKeyPressure { .. } => "key pressure",
+        ChannelMessage::ControlChange { .. } => "control change",
+        ChannelMessage::ProgramChange { .. } => "program change",
+        ChannelMessage::ChannelPressure { .. } => "channel pressure",
+        ChannelMessage::PitchBend { .. } => "pitch bend",
     }
 }
 
-pub fn common_words<W: fmt::Write>(
-    f: &mut fmt::Formatter<W>,
-    message: SystemCommon,
-) -> fmt::Result {
+fn put_two(line: &mut Line, label: &str, first: u8, then: &str, second: u8) {
+    put_labelled(line, label, u64::from(first));
+    put_labelled(line, then, u64::from(second));
+}
+
+// A channel message, its channel and its data.
+pub fn put_channel(line: &mut Line, channel: Channel, message: ChannelMessage) {
+    line.put_str(name(message));
+    put_labelled(line, ", channel ", u64::from(channel.number()));
     match message {
-        SystemCommon::TimeCodeQuarterFrame(value) => write!(f, "time code quarter frame {value}"),
-        SystemCommon::SongPosition(value) => write!(f, "song position {value}"),
-        SystemCommon::SongSelect(value) => write!(f, "song select {value}"),
-        SystemCommon::TuneRequest => f.write_str("tune request"),
+        ChannelMessage::NoteOff { key, velocity } => {
+            put_two(line, ", key ", key, ", velocity ", velocity);
+        }
+        ChannelMessage::NoteOn { key, velocity } => {
+            put_two(line, ", key ", key, ", velocity ", velocity);
+            // One with velocity 0 releases its key.
+            if let Effect::Release(_) = held_keys::effect_of(message) {
+                line.put_str(", releases the key");
+            }
+        }
+        ChannelMessage::PolyKeyPressure { key, pressure } => {
+            put_two(line, ", key ", key, ", pressure ", pressure);
+        }
+        ChannelMessage::ControlChange { controller, value } => {
+            put_two(line, ", controller ", controller, ", value ", value);
+        }
+        ChannelMessage::ProgramChange { program } => {
+            put_labelled(line, ", program ", u64::from(program));
+        }
+        ChannelMessage::ChannelPressure { pressure } => {
+            put_labelled(line, ", pressure ", u64::from(pressure));
+        }
+        ChannelMessage::PitchBend { value } => put_labelled(line, ", value ", u64::from(value)),
+    }
+}
+
+pub fn put_common(line: &mut Line, message: SystemCommon) {
+    match message {
+        SystemCommon::TimeCodeQuarterFrame(value) => {
+            put_labelled(line, "time code quarter frame ", u64::from(value));
+        }
+        SystemCommon::SongPosition(value) => {
+            put_labelled(line, "song position ", u64::from(value));
+        }
+        SystemCommon::SongSelect(value) => put_labelled(line, "song select ", u64::from(value)),
+        SystemCommon::TuneRequest => line.put_str("tune request"),
     }
 }
 

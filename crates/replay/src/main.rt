@@ -4,8 +4,7 @@
 // that cannot be written ends it with that error.
 #![tactic(auto)]
 
-use bench_words::{Request, Word};
-use std::collections::BTreeMap;
+use bench_words::{Answer, Request, Word};
 use std::os::unix::fs::FileExt;
 use std::rt::Files;
 use std::{env, fmt, fs, io};
@@ -13,8 +12,8 @@ use std::{env, fmt, fs, io};
 // A record may take so many bytes with its end.
 const LONGEST_RECORD: usize = 65536;
 
-// Of an answer so many bytes are compared and shown; no recorded one is longer.
-const LONGEST_ANSWER: usize = 16384;
+// A tally for each word, and one for what is no word.
+const TALLIES: usize = Word::ALL.len() + 1;
 
 // So many files are replayed at most.
 const MOST_FILES: usize = 1023;
@@ -41,28 +40,41 @@ impl fmt::Display for Tally {
     }
 }
 
-// A file's records up to now, counted for each word, and together where the bench has no such word. Drop alone, for the map: it
-// is not copied.
-#[derive(Drop)]
+// A file's records up to now, counted for each word, and together where the bench has no such word; and the last answer.
+#[derive(Clone, Copy)]
 struct Replay<'a, R> {
     rt: &'a R,
-    tallies: BTreeMap<Option<Word>, Tally>,
+    tallies: [Tally; TALLIES],
+    answer: Answer,
+}
+
+// Where the tally of a word stands.
+fn place_of(word: Option<Word>) -> usize {
+    word.map_or(Word::ALL.len(), |word| word as usize)
 }
 
 impl<'a, R: Print + Eprint + AllocGlobal> Replay<'a, R> {
     fn new(rt: &'a R) -> Replay<'a, R> {
         Replay {
             rt,
-            tallies: BTreeMap::new(rt.alloc()),
+            tallies: [Tally::default(); TALLIES],
+            answer: Answer::new(),
         }
+    }
+
+    fn tally(&self, word: Option<Word>) -> Tally {
+        self.tallies
+            .get(place_of(word))
+            .copied()
+            .unwrap_or_default()
     }
 
     // Replays record after record, each read from its place on. What cannot be read, and a line with no end, is the last.
     // Places in a file are u64, to which no From leads from usize.
     fn run(&mut self, file: &impl FileExt, path: &str) -> io::Result<()> {
         let mut place: u64 = 0;
+        let mut bytes = [0u8; LONGEST_RECORD];
         for record in 1..0x1_0000_0000u64 {
-            let mut bytes = [0u8; LONGEST_RECORD];
             let count = match file.read_at(&mut bytes, place) {
                 Ok(count) => count,
                 Err(error) => return text::failures::fail(self.rt, path, error),
@@ -72,7 +84,8 @@ impl<'a, R: Print + Eprint + AllocGlobal> Replay<'a, R> {
             }
             let Some((line, _)) = text::split_once(&bytes[..count], b'\n') else {
                 self.show(record, &bytes[..count], b"a line with no end", b"")?;
-                return self.count(None, 0, 1);
+                self.count(None, 0, 1);
+                break;
             };
             self.replay(record, line)?;
             place = place.saturating_add(line.len() as u64).saturating_add(1);
@@ -84,24 +97,21 @@ impl<'a, R: Print + Eprint + AllocGlobal> Replay<'a, R> {
     fn replay(&mut self, record: u64, line: &[u8]) -> io::Result<()> {
         let (ask, want) = text::split_once(line, b'\t').unwrap_or((line, b""));
         let request = Request::of(ask);
-        let answer = request.answer(self.rt.alloc())?;
-        let got = text::front(answer.as_bytes(), LONGEST_ANSWER);
+        request.answer(&mut self.answer);
+        let got = self.answer.as_bytes();
         let is_same = got == want;
         let word = request.word;
-        let is_first = self
-            .tallies
-            .get(&word)
-            .is_none_or(|tally| tally.differ == 0);
-        if !is_same && is_first {
+        if !is_same && self.tally(word).differ == 0 {
             self.show(record, ask, got, want)?;
         }
-        self.count(word, 1, u64::from(!is_same))
+        self.count(word, 1, u64::from(!is_same));
+        Ok(())
     }
 
-    fn count(&mut self, word: Option<Word>, answers: u64, differ: u64) -> io::Result<()> {
-        let tally = self.tallies.entry(word)?.or_default();
-        tally.add(Tally { answers, differ });
-        Ok(())
+    fn count(&mut self, word: Option<Word>, answers: u64, differ: u64) {
+        if let Some(tally) = self.tallies.get_mut(place_of(word)) {
+            tally.add(Tally { answers, differ });
+        }
     }
 
     // The record's number and request, what was got, and what was recorded. A record's bytes need not be text.
@@ -119,7 +129,7 @@ impl<'a, R: Print + Eprint + AllocGlobal> Replay<'a, R> {
     fn tell(&self, path: &str) -> io::Result<()> {
         let mut all = Tally::default();
         for word in Word::ALL.into_iter().map(Some).chain([None]) {
-            let tally = self.tallies.get(&word).copied().unwrap_or_default();
+            let tally = self.tally(word);
             if 0 < tally.answers {
                 println!(self.rt; "{}: {tally}", word.map_or("other", |word| word.name()))?;
             }

@@ -6,6 +6,91 @@ pub mod refusals;
 
 use std::fmt;
 
+// Text in a room of its own. What has no room is left out, so that no call here fails or needs memory.
+#[derive(Clone, Copy)]
+pub struct Text<const N: usize> {
+    room: [u8; N],
+    len: usize,
+}
+
+impl<const N: usize> Text<N> {
+    pub fn new() -> Text<N> {
+        Text {
+            room: [0; N],
+            len: 0,
+        }
+    }
+
+    pub fn as_bytes(&self) -> &[u8] {
+        front(&self.room, self.len)
+    }
+
+    pub fn clear(&mut self) {
+        self.len = 0;
+    }
+
+    pub fn put_byte(&mut self, byte: u8) {
+        let at = self.len;
+        let room = &mut self.room[..];
+        if at < room.len() {
+            room[at] = byte;
+            self.len = at + 1;
+        }
+    }
+
+    // As many of the bytes as have room.
+    pub fn put_bytes(&mut self, bytes: &[u8]) {
+        for byte in bytes {
+            self.put_byte(*byte);
+        }
+    }
+
+    pub fn put_str(&mut self, words: &str) {
+        self.put_bytes(words.as_bytes());
+    }
+
+    // A number in decimal digits.
+    pub fn put_decimal(&mut self, n: u64) {
+        let mut digits = [0; 20];
+        let count = io::decimal(n, &mut digits);
+        self.put_bytes(&digits[..count]);
+    }
+
+    // A byte as two hexadecimal digits.
+    pub fn put_hex(&mut self, byte: u8) {
+        self.put_byte(hex_digit(byte >> 4));
+        self.put_byte(hex_digit(byte & 0xF));
+    }
+
+    // Spaces up to a column.
+    pub fn pad(&mut self, column: usize) {
+        for _ in self.len..column {
+            self.put_byte(b' ');
+        }
+    }
+
+    // What a value displays; `write!` calls this.
+    pub fn write_fmt<D: fmt::Display + Drop>(&mut self, value: D) {
+        let _ = fmt::Write::write(self, value);
+    }
+}
+
+impl<const N: usize> fmt::Write for Text<N> {
+    fn write_str(&mut self, words: &str) -> fmt::Result {
+        self.put_str(words);
+        Ok(())
+    }
+}
+
+// The digit of a number below 16.
+fn hex_digit(n: u8) -> u8 {
+    if n < 10 {
+        b'0' + n
+    } else {
+        b'a' + (n & 0xF) - 10
+    }
+}
+
 // Bytes as two hexadecimal digits each, and behind each byte the same text.
 #[derive(Clone, Copy)]
 pub struct Hex<'a> {
