@@ -1,6 +1,9 @@
 // Bytes, refusals and failures as text, for the programs on a host.
 #![tactic(auto)]
 
+ghost use Rattle.std.specs.Prelude.{◌≡◌, [], ◌∷◌, ◌++◌, take};
+ghost use Rattle.text.specs.Text.{shown};
+
 pub mod failures;
 pub mod refusals;
 
@@ -14,22 +17,31 @@ pub struct Text<const N: usize> {
 }
 
 impl<const N: usize> Text<N> {
-    pub fn new() -> Text<N> {
+    pub fn new() -> Text<N>
+        ensures { shown result ≡ [] }
+    {
         Text {
             room: [0; N],
             len: 0,
         }
     }
 
-    pub fn as_bytes(&self) -> &[u8] {
+    pub fn as_bytes(&self) -> &[u8]
+        ensures { result.now ≡ shown self.now }
+    {
         front(&self.room, self.len)
     }
 
-    pub fn clear(&mut self) {
+    pub fn clear(&mut self)
+        ensures { shown self.new ≡ [] }
+    {
         self.len = 0;
     }
 
-    pub fn put_byte(&mut self, byte: u8) {
+    // One byte, where it has room.
+    pub fn put_byte(&mut self, byte: u8)
+        ensures { shown self.new ≡ take N (shown self.old ++ byte ∷ []) }
+    {
         let at = self.len;
         let room = &mut self.room[..];
         if at < room.len() {
@@ -39,13 +51,17 @@ impl<const N: usize> Text<N> {
     }
 
     // As many of the bytes as have room.
-    pub fn put_bytes(&mut self, bytes: &[u8]) {
+    pub fn put_bytes(&mut self, bytes: &[u8])
+        ensures { shown self.new ≡ take N (shown self.old ++ bytes.now) }
+    {
         for byte in bytes {
             self.put_byte(*byte);
         }
     }
 
-    pub fn put_str(&mut self, words: &str) {
+    pub fn put_str(&mut self, words: &str)
+        ensures { shown self.new ≡ take N (shown self.old ++ words.now) }
+    {
         self.put_bytes(words.as_bytes());
     }
 
@@ -109,7 +125,9 @@ impl fmt::Display for Hex<'_> {
 }
 
 // The first bytes, so many or all.
-pub fn front(bytes: &[u8], count: usize) -> &[u8] {
+pub fn front(bytes: &[u8], count: usize) -> &[u8]
+    ensures { result.now ≡ take count bytes.now }
+{
     bytes.get(..count).unwrap_or(bytes)
 }
 
