@@ -36,7 +36,7 @@ same_state : (o : Outcome Walked) (d : Decoder) → next_state o d ≡ fed_state
 same_state (gives w) d = refl
 same_state (refused k values) d = refl
 
-is_call : (d : Decoder) (store bytes : List ℕ) (answer : Result Taken Refusal) (next : Decoder) (left : List ℕ) → sound d ≡ true
+pub is_call : (d : Decoder) (store bytes : List ℕ) (answer : Result Taken Refusal) (next : Decoder) (left : List ℕ) → sound d ≡ true
     → FeedsInPlace (call d store bytes) answer d next store left
     → IsCall (λ (x : Result Taken Refusal). taken_count (answered x)) (λ (x : Result Taken Refusal) (m : List ℕ). taken_reports (answered x) m) (λ (k : Decoder). k)
     (call d store bytes) d store answer next left

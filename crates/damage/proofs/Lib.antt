@@ -16,3 +16,4 @@ pub mod Rows
 pub mod WritersRead
 pub mod Example
 pub mod Condition3InPlace
+pub mod Condition3Front

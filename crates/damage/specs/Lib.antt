@@ -10,3 +10,4 @@ pub mod Meaning
 pub mod Calls
 pub mod Promises
 pub mod InPlaceCalls
+pub mod FrontCalls

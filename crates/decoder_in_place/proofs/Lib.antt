@@ -1,2 +1,2 @@
 mod Refused
-mod Front
+pub mod Front

@@ -1,5 +1,5 @@
 -- A call on its way, in the decoder's own terms.
-use Rattle.std.specs.Prelude.{◌≡◌, true, List, ℕ, ◌-◌, ◌≤◌, min, length, take, drop}
+use Rattle.std.specs.Prelude.{◌≡◌, true, List, ℕ, ◌+◌, ◌-◌, ◌≤◌, min, length, take, drop}
 use Rattle.laws.specs.Choice.{pick}
 use Rattle.laws.specs.Window.{window}
 use Rattle.octets.specs.quick.Data.{data_run}
@@ -47,6 +47,15 @@ pub record Ready (entry m a : ℕ) (l : List ℕ) : Type 0 where
   pub length_is : entry ≡ pick (state_of l).in_sysex (state_of l).len 0
   pub middle : m ≡ waiting_number (state_of l)
   pub first : a ≡ (state_of l).data0
+
+-- so many data bytes behind the first `from` were moved to the store from `start` on, and at most `left` more may follow of the `most`
+pub record MovedTo (start from most at used left : ℕ) (before after bytes : List ℕ) : Type 0 where
+  pub count : ℕ
+  pub place : at ≡ start + count
+  pub next : used ≡ from + count
+  pub rest : left + count ≡ most
+  pub run : count ≤ data_run (drop from bytes)
+  pub moved : after ≡ window before start (take count (drop from bytes))
 
 -- the first n bytes of `from` are data bytes, and were copied to the front of a buffer
 pub record Copied (n : ℕ) (from before after : List ℕ) : Type 0 where
