@@ -21,7 +21,6 @@ use refusal::{OfByte, Refusal};
 
 // The device of a framed message that is len long and has the shape behind its device. Refuses 1, then any other message by otherwise, then 5 for the
 // device.
-#[inline(always)]
 fn device_in(
     bytes: &[u8],
     len: usize,
