@@ -1,41 +1,12 @@
 // A request taken apart: words stand between single spaces, numbers are decimal, bytes are plain hexadecimal, `-` for none.
 use ids::DeviceId;
+use text::Text;
 
 // So many bytes are read of one word at most.
 pub const MOST_BYTES: usize = 4096;
 
-// Bytes in a room of their own.
-#[derive(Clone, Copy)]
-pub struct Bytes {
-    room: [u8; MOST_BYTES],
-    len: usize,
-}
-
-impl Bytes {
-    fn new() -> Bytes {
-        Bytes {
-            room: [0; MOST_BYTES],
-            len: 0,
-        }
-    }
-
-    // One byte more, where it has room.
-    fn push(&mut self, byte: u8) {
-        if self.len < MOST_BYTES {
-            self.room[self.len] = byte;
-            self.len += 1;
-        }
-    }
-
-    pub fn as_slice(&self) -> &[u8] {
-        text::front(&self.room, self.len)
-    }
-
-    pub fn as_mut_slice(&mut self) -> &mut [u8] {
-        let len = self.len.min(MOST_BYTES);
-        &mut self.room[..len]
-    }
-}
+// The bytes of a word.
+pub type Bytes = Text<MOST_BYTES>;
 
 // Numbers with commas between them, from the first again behind the last.
 #[derive(Clone, Copy)]
@@ -87,7 +58,7 @@ impl<'a> Arguments<'a> {
         let mut bytes = Bytes::new();
         for pair in pairs {
             match paired(*pair) {
-                Some(byte) => bytes.push(byte),
+                Some(byte) => bytes.put_byte(byte),
                 None => break,
             }
         }

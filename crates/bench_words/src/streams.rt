@@ -137,7 +137,7 @@ pub fn feed(mut ask: Arguments<'_>, answer: &mut Answer) -> Result<(), Refusal> 
     let bytes = ask.bytes();
     let mut stream = Stream::new(Some(0));
     answer.put_str("ok");
-    let all_used = stream.take(bytes.as_slice(), answer);
+    let all_used = stream.take(bytes.as_bytes(), answer);
     end(answer, all_used);
     write!(answer, " open={}", u8::from(stream.state.in_sysex));
     Ok(())
@@ -150,7 +150,7 @@ pub fn chunks(mut ask: Arguments<'_>, answer: &mut Answer) -> Result<(), Refusal
     let bytes = ask.bytes();
     let mut stream = Stream::new(None);
     let mut all_used = true;
-    let mut rest = bytes.as_slice();
+    let mut rest = bytes.as_bytes();
     answer.put_str("ok");
     for _ in 0..65536 {
         if rest.is_empty() {

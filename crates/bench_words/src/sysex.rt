@@ -43,7 +43,7 @@ fn stays(bytes: &[u8]) -> bool {
 }
 
 pub fn frame(mut ask: Arguments<'_>, answer: &mut Answer) -> Result<(), Refusal> {
-    read(ask.bytes().as_slice(), answer)
+    read(ask.bytes().as_bytes(), answer)
 }
 
 // A record as the words `fwrite` and `readback` list it, and its run.
@@ -88,7 +88,7 @@ pub fn frame_write(mut ask: Arguments<'_>, answer: &mut Answer) -> Result<(), Re
         run,
     } = listed(&mut ask);
     wires::written(ask, answer, |lent| {
-        frame_writer::write_record(device, command, fields, run.as_slice(), lent)
+        frame_writer::write_record(device, command, fields, run.as_bytes(), lent)
     })
 }
 
@@ -102,6 +102,6 @@ pub fn read_back(mut ask: Arguments<'_>, answer: &mut Answer) -> Result<(), Refu
     } = listed(&mut ask);
     let mut space = [0u8; MOST_BYTES];
     let frame = message::head::from_record(device, command, fields)?;
-    let count = frame_writer::encode_into(frame, run.as_slice(), &mut space)?;
+    let count = frame_writer::encode_into(frame, run.as_bytes(), &mut space)?;
     read(text::front(&space, count), answer)
 }

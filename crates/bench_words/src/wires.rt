@@ -27,8 +27,8 @@ pub fn written<F: FnOnce(&mut [u8]) -> Result<usize, Refusal>>(
     requires { F.IsAlwaysCallable write }
 {
     let mut lent = ask.bytes();
-    let count = write(lent.as_mut_slice());
-    wrote(answer, count, lent.as_slice());
+    let count = write(lent.as_mut_bytes());
+    wrote(answer, count, lent.as_bytes());
     Ok(())
 }
 
@@ -41,7 +41,7 @@ pub fn turned<F: FnOnce(&[u8], &mut [u8]) -> Result<usize, Refusal>>(
     requires { F.IsAlwaysCallable write }
 {
     let bytes = ask.bytes();
-    written(ask, answer, |lent| write(bytes.as_slice(), lent))
+    written(ask, answer, |lent| write(bytes.as_bytes(), lent))
 }
 
 // The message of a nibble and its data, on a channel. The first number is a bend's value, and a nibble of no other message makes a bend. The value
@@ -58,7 +58,7 @@ pub fn channel_message(mut ask: Arguments<'_>, answer: &mut Answer) -> Result<()
 
 pub fn inquiry_request(mut ask: Arguments<'_>, answer: &mut Answer) -> Result<(), Refusal> {
     let bytes = ask.bytes();
-    let device = inquiry::request::parse_request(bytes.as_slice())?;
+    let device = inquiry::request::parse_request(bytes.as_bytes())?;
     ok(answer, device.to_byte());
     Ok(())
 }
@@ -69,7 +69,7 @@ pub fn inquiry_reply(mut ask: Arguments<'_>, answer: &mut Answer) -> Result<(), 
         device,
         firmware,
         voice,
-    } = inquiry::reply::parse_reply(bytes.as_slice())?;
+    } = inquiry::reply::parse_reply(bytes.as_bytes())?;
     write!(
         answer,
         "ok dev={} fw={}.{} voice={},{}",

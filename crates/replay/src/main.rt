@@ -41,7 +41,8 @@ impl fmt::Display for Tally {
 }
 
 // A file's records up to now, counted for each word, and together where the bench has no such word; and the last answer.
-#[derive(Clone, Copy)]
+// Drop alone, since it holds a reference to the runtime.
+#[derive(Drop)]
 struct Replay<'a, R> {
     rt: &'a R,
     tallies: [Tally; TALLIES],
@@ -49,7 +50,7 @@ struct Replay<'a, R> {
 }
 
 // Where the tally of a word stands.
-fn place_of(word: Option<Word>) -> usize {
+fn tally_place(word: Option<Word>) -> usize {
     word.map_or(Word::ALL.len(), |word| word as usize)
 }
 
@@ -64,7 +65,7 @@ impl<'a, R: Print + Eprint + AllocGlobal> Replay<'a, R> {
 
     fn tally(&self, word: Option<Word>) -> Tally {
         self.tallies
-            .get(place_of(word))
+            .get(tally_place(word))
             .copied()
             .unwrap_or_default()
     }
@@ -109,7 +110,7 @@ impl<'a, R: Print + Eprint + AllocGlobal> Replay<'a, R> {
     }
 
     fn count(&mut self, word: Option<Word>, answers: u64, differ: u64) {
-        if let Some(tally) = self.tallies.get_mut(place_of(word)) {
+        if let Some(tally) = self.tallies.get_mut(tally_place(word)) {
             tally.add(Tally { answers, differ });
         }
     }

@@ -9,7 +9,7 @@ pub mod refusals;
 
 use std::fmt;
 
-// Text in a room of its own. What has no room is left out, so that no call here fails or needs memory.
+// Text, or any bytes, in a room of its own. What has no room is left out, so that no call here fails or needs memory.
 #[derive(Clone, Copy)]
 pub struct Text<const N: usize> {
     room: [u8; N],
@@ -30,6 +30,14 @@ impl<const N: usize> Text<N> {
         ensures { result.now ≡ shown self.now }
     {
         front(&self.room, self.len)
+    }
+
+    pub fn as_mut_bytes(&mut self) -> &mut [u8]
+        ensures { result.now ≡ shown self.old }
+    {
+        let len = self.len.min(N);
+        let room = &mut self.room[..];
+        &mut room[..len]
     }
 
     pub fn clear(&mut self)
