@@ -122,7 +122,8 @@ pub fn write_frame(state: Option<u8>, frame: &[u8], out: &mut [u8]) -> Result<Em
         return Err(Refusal::BadStore);
     }
     check_frame(frame)?;
-    let count = refusal::put(frame, out)?;
+    let count = refusal::room(frame.len(), out.len())?;
+    octets::copies::copy_into(frame, out);
     Ok(Emitted { count, state: None })
 }
 
