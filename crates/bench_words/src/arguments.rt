@@ -53,16 +53,16 @@ impl<'a> Arguments<'a> {
         }
     }
 
-    pub fn bytes(&mut self) -> Bytes {
+    // Leaves the bytes alone in a room, which is lent, so that no copy of it stands on the stack.
+    pub fn bytes(&mut self, bytes: &mut Bytes) {
         let (pairs, _) = self.front().as_chunks::<2>();
-        let mut bytes = Bytes::new();
+        bytes.clear();
         for pair in pairs {
             match paired(*pair) {
                 Some(byte) => bytes.put_byte(byte),
                 None => break,
             }
         }
-        bytes
     }
 
     pub fn numbers(&mut self) -> Numbers<'a> {

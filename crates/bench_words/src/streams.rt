@@ -1,6 +1,6 @@
 // The words of the decoder, from a fresh one each time.
 use crate::Answer;
-use crate::arguments::Arguments;
+use crate::arguments::{Arguments, Bytes};
 use decoder::{Decoder, MAX_SYSEX_LEN, Report};
 use decoder_in_place::Taken;
 use refusal::{OfByte, Refusal};
@@ -134,7 +134,8 @@ fn end(answer: &mut Answer, all_used: bool) {
 }
 
 pub fn feed(mut ask: Arguments<'_>, answer: &mut Answer) -> Result<(), Refusal> {
-    let bytes = ask.bytes();
+    let mut bytes = Bytes::new();
+    ask.bytes(&mut bytes);
     let mut stream = Stream::new(Some(0));
     answer.put_str("ok");
     let all_used = stream.take(bytes.as_bytes(), answer);
@@ -147,7 +148,8 @@ pub fn feed(mut ask: Arguments<'_>, answer: &mut Answer) -> Result<(), Refusal> 
 // usize.
 pub fn chunks(mut ask: Arguments<'_>, answer: &mut Answer) -> Result<(), Refusal> {
     let mut sizes = ask.numbers();
-    let bytes = ask.bytes();
+    let mut bytes = Bytes::new();
+    ask.bytes(&mut bytes);
     let mut stream = Stream::new(None);
     let mut all_used = true;
     let mut rest = bytes.as_bytes();

@@ -43,19 +43,20 @@ fn stays(bytes: &[u8]) -> bool {
 }
 
 pub fn frame(mut ask: Arguments<'_>, answer: &mut Answer) -> Result<(), Refusal> {
-    read(ask.bytes().as_bytes(), answer)
+    let mut bytes = Bytes::new();
+    ask.bytes(&mut bytes);
+    read(bytes.as_bytes(), answer)
 }
 
-// A record as the words `fwrite` and `readback` list it, and its run.
+// A record as the words `fwrite` and `readback` list it; its run stands behind it.
 #[derive(Clone, Copy)]
-struct Hand {
+struct Listing {
     device: DeviceId,
     command: u8,
     fields: Fields,
-    run: Bytes,
 }
 
-fn listed(ask: &mut Arguments<'_>) -> Hand {
+fn listed(ask: &mut Arguments<'_>) -> Listing {
     let device = ask.device();
     let command = ask.byte();
     let fields = Fields {
@@ -70,23 +71,22 @@ fn listed(ask: &mut Arguments<'_>) -> Hand {
         rx: ask.byte(),
         tx: ask.byte(),
     };
-    let run = ask.bytes();
-    Hand {
+    Listing {
         device,
         command,
         fields,
-        run,
     }
 }
 
 // By the writer of plain fields.
 pub fn frame_write(mut ask: Arguments<'_>, answer: &mut Answer) -> Result<(), Refusal> {
-    let Hand {
+    let Listing {
         device,
         command,
         fields,
-        run,
     } = listed(&mut ask);
+    let mut run = Bytes::new();
+    ask.bytes(&mut run);
     wires::written(ask, answer, |lent| {
         frame_writer::write_record(device, command, fields, run.as_bytes(), lent)
     })
@@ -94,12 +94,13 @@ pub fn frame_write(mut ask: Arguments<'_>, answer: &mut Answer) -> Result<(), Re
 
 // By the writer of messages, to the front of a buffer with room for every frame; what was written is read.
 pub fn read_back(mut ask: Arguments<'_>, answer: &mut Answer) -> Result<(), Refusal> {
-    let Hand {
+    let Listing {
         device,
         command,
         fields,
-        run,
     } = listed(&mut ask);
+    let mut run = Bytes::new();
+    ask.bytes(&mut run);
     let mut space = [0u8; MOST_BYTES];
     let frame = message::head::from_record(device, command, fields)?;
     let count = frame_writer::encode_into(frame, run.as_bytes(), &mut space)?;

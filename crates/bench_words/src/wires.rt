@@ -1,6 +1,6 @@
 // Packed runs, channel messages and identity: the words of bytes.
 use crate::Answer;
-use crate::arguments::Arguments;
+use crate::arguments::{Arguments, Bytes};
 use crate::said::{ok, wrote};
 use inquiry::{Identity, Version};
 use refusal::{OfByte, Refusal};
@@ -26,7 +26,8 @@ pub fn written<F: FnOnce(&mut [u8]) -> Result<usize, Refusal>>(
 ) -> Result<(), Refusal>
     requires { F.IsAlwaysCallable write }
 {
-    let mut lent = ask.bytes();
+    let mut lent = Bytes::new();
+    ask.bytes(&mut lent);
     let count = write(lent.as_mut_bytes());
     wrote(answer, count, lent.as_bytes());
     Ok(())
@@ -40,7 +41,8 @@ pub fn turned<F: FnOnce(&[u8], &mut [u8]) -> Result<usize, Refusal>>(
 ) -> Result<(), Refusal>
     requires { F.IsAlwaysCallable write }
 {
-    let bytes = ask.bytes();
+    let mut bytes = Bytes::new();
+    ask.bytes(&mut bytes);
     written(ask, answer, |lent| write(bytes.as_bytes(), lent))
 }
 
@@ -57,14 +59,16 @@ pub fn channel_message(mut ask: Arguments<'_>, answer: &mut Answer) -> Result<()
 }
 
 pub fn inquiry_request(mut ask: Arguments<'_>, answer: &mut Answer) -> Result<(), Refusal> {
-    let bytes = ask.bytes();
+    let mut bytes = Bytes::new();
+    ask.bytes(&mut bytes);
     let device = inquiry::request::parse_request(bytes.as_bytes())?;
     ok(answer, device.to_byte());
     Ok(())
 }
 
 pub fn inquiry_reply(mut ask: Arguments<'_>, answer: &mut Answer) -> Result<(), Refusal> {
-    let bytes = ask.bytes();
+    let mut bytes = Bytes::new();
+    ask.bytes(&mut bytes);
     let Identity {
         device,
         firmware,

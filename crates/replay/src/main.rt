@@ -40,13 +40,12 @@ impl fmt::Display for Tally {
     }
 }
 
-// A file's records up to now, counted for each word, and together where the bench has no such word; and the last answer.
+// A file's records up to now, counted for each word, and together where the bench has no such word.
 // Drop alone, since it holds a reference to the runtime.
 #[derive(Drop)]
 struct Replay<'a, R> {
     rt: &'a R,
     tallies: [Tally; TALLIES],
-    answer: Answer,
 }
 
 // Where the tally of a word stands.
@@ -59,7 +58,6 @@ impl<'a, R: Print + Eprint + AllocGlobal> Replay<'a, R> {
         Replay {
             rt,
             tallies: [Tally::default(); TALLIES],
-            answer: Answer::new(),
         }
     }
 
@@ -75,6 +73,7 @@ impl<'a, R: Print + Eprint + AllocGlobal> Replay<'a, R> {
     fn run(&mut self, file: &impl FileExt, path: &str) -> io::Result<()> {
         let mut place: u64 = 0;
         let mut bytes = [0u8; LONGEST_RECORD];
+        let mut answer = Answer::new();
         for record in 1..0x1_0000_0000u64 {
             let count = match file.read_at(&mut bytes, place) {
                 Ok(count) => count,
@@ -88,18 +87,18 @@ impl<'a, R: Print + Eprint + AllocGlobal> Replay<'a, R> {
                 self.count(None, 0, 1);
                 break;
             };
-            self.replay(record, line)?;
+            self.replay(record, line, &mut answer)?;
             place = place.saturating_add(line.len() as u64).saturating_add(1);
         }
         Ok(())
     }
 
     // Compares what is got for a record's request with what was recorded.
-    fn replay(&mut self, record: u64, line: &[u8]) -> io::Result<()> {
+    fn replay(&mut self, record: u64, line: &[u8], answer: &mut Answer) -> io::Result<()> {
         let (ask, want) = text::split_once(line, b'\t').unwrap_or((line, b""));
         let request = Request::of(ask);
-        request.answer(&mut self.answer);
-        let got = self.answer.as_bytes();
+        request.answer(answer);
+        let got = answer.as_bytes();
         let is_same = got == want;
         let word = request.word;
         if !is_same && self.tally(word).differ == 0 {

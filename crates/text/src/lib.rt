@@ -17,6 +17,8 @@ pub struct Text<const N: usize> {
 }
 
 impl<const N: usize> Text<N> {
+    // Not inlined, so that a caller's stack holds the room once.
+    #[inline(never)]
     pub fn new() -> Text<N>
         ensures { shown result ≡ [] }
     {
