@@ -13,7 +13,7 @@ use said::No;
 use text::Text;
 pub use word::Word;
 
-// An answer's text; no recorded one is longer than the room, and of a longer one the rest is left out.
+// A room for an answer's text; no recorded one is longer.
 pub type Answer = Text<16384>;
 
 // A request: its word, where it is one of the bench's, and what the word is asked.
@@ -38,7 +38,7 @@ impl<'a> Request<'a> {
     }
 
     // Leaves the answer's text alone in a room; it is empty where the word is not one of the bench's.
-    pub fn answer(self, answer: &mut Answer) {
+    pub fn answer<const N: usize>(self, answer: &mut Text<N>) {
         answer.clear();
         let Some(word) = self.word else {
             return;

@@ -1,16 +1,15 @@
 // Answers as the bench writes them.
-use crate::Answer;
 use refusal::Refusal;
 use std::fmt;
-use text::Hex;
 use text::refusals::Details;
+use text::{Hex, Text};
 
 // `ok` and what was asked for.
-pub fn ok<T: fmt::Display + Drop>(answer: &mut Answer, value: T) {
+pub fn ok<T: fmt::Display + Drop, const N: usize>(answer: &mut Text<N>, value: T) {
     write!(answer, "ok {value}");
 }
 
-pub fn ok_or_none<T: fmt::Display + Drop>(answer: &mut Answer, value: Option<T>) {
+pub fn ok_or_none<T: fmt::Display + Drop, const N: usize>(answer: &mut Text<N>, value: Option<T>) {
     match value {
         Some(value) => ok(answer, value),
         None => ok(answer, "none"),
@@ -45,7 +44,7 @@ impl fmt::Display for Listed<'_> {
 }
 
 // What a writer answered, and the whole buffer that it was lent.
-pub fn wrote(answer: &mut Answer, count: Result<usize, Refusal>, lent: &[u8]) {
+pub fn wrote<const N: usize>(answer: &mut Text<N>, count: Result<usize, Refusal>, lent: &[u8]) {
     let lent = Listed(lent);
     match count {
         Ok(n) => write!(answer, "ok {n} | {lent}"),

@@ -1,11 +1,10 @@
 // The words of the decoder, from a fresh one each time.
-use crate::Answer;
 use crate::arguments::{Arguments, Bytes};
 use decoder::{Decoder, MAX_SYSEX_LEN, Report};
 use decoder_in_place::Taken;
 use refusal::{OfByte, Refusal};
 use std::fmt;
-use text::Hex;
+use text::{Hex, Text};
 use wire::{Channel, ChannelMessage, SystemCommon};
 
 // A report as the bench writes it. A frame is the front of the store.
@@ -87,7 +86,7 @@ impl Stream {
     // Calls until all bytes are used, and then answers true; it stops where a call is refused. Places are u64, to
     // which no From leads from usize. The monitor has this loop too: what it does with a report differs, and one function
     // for both, with a closure for it, would be as long.
-    fn take(&mut self, bytes: &[u8], answer: &mut Answer) -> bool {
+    fn take<const N: usize>(&mut self, bytes: &[u8], answer: &mut Text<N>) -> bool {
         let mut rest = bytes;
         while let Some((taken, next)) = decoder_in_place::feed_front(
             &mut self.state,
@@ -104,7 +103,7 @@ impl Stream {
     }
 
     // The reports of one call.
-    fn tell_all(&self, taken: Taken, answer: &mut Answer) {
+    fn tell_all<const N: usize>(&self, taken: Taken, answer: &mut Text<N>) {
         if taken.interrupted {
             self.tell(Report::SysExInterrupted, answer);
         }
@@ -114,7 +113,7 @@ impl Stream {
     }
 
     // A report, behind the place of the byte that gave it.
-    fn tell(&self, report: Report, answer: &mut Answer) {
+    fn tell<const N: usize>(&self, report: Report, answer: &mut Text<N>) {
         let told = BenchReport {
             store: &self.store,
             report,
@@ -127,13 +126,13 @@ impl Stream {
 }
 
 // A mark that no recorded answer has, where bytes were left over.
-fn end(answer: &mut Answer, all_used: bool) {
+fn end<const N: usize>(answer: &mut Text<N>, all_used: bool) {
     if !all_used {
         answer.put_byte(b'!');
     }
 }
 
-pub fn feed(mut ask: Arguments<'_>, answer: &mut Answer) -> Result<(), Refusal> {
+pub fn feed<const N: usize>(mut ask: Arguments<'_>, answer: &mut Text<N>) -> Result<(), Refusal> {
     let mut bytes = Bytes::new();
     ask.bytes(&mut bytes);
     let mut stream = Stream::new(Some(0));
@@ -146,7 +145,7 @@ pub fn feed(mut ask: Arguments<'_>, answer: &mut Answer) -> Result<(), Refusal> 
 
 // The bytes in pieces of the sizes that are listed, from the first size again behind the last. A size is cast, since no From leads from u64 to
 // usize.
-pub fn chunks(mut ask: Arguments<'_>, answer: &mut Answer) -> Result<(), Refusal> {
+pub fn chunks<const N: usize>(mut ask: Arguments<'_>, answer: &mut Text<N>) -> Result<(), Refusal> {
     let mut sizes = ask.numbers();
     let mut bytes = Bytes::new();
     ask.bytes(&mut bytes);

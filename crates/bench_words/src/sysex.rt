@@ -1,13 +1,14 @@
 // The words of frames.
 use crate::arguments::{Arguments, Bytes, MOST_BYTES};
 use crate::said::Listed;
-use crate::{Answer, wires};
+use crate::wires;
 use ids::DeviceId;
 use message::Fields;
 use refusal::{OfByte, Refusal};
+use text::Text;
 
 // Every field by its name, then the run; a mark that no recorded answer has, where the frame is not written again as the same bytes.
-fn read(bytes: &[u8], answer: &mut Answer) -> Result<(), Refusal> {
+fn read<const N: usize>(bytes: &[u8], answer: &mut Text<N>) -> Result<(), Refusal> {
     let frame = frame_reader::parse(bytes)?;
     let device = frame.device;
     let head = frame.head;
@@ -42,7 +43,7 @@ fn stays(bytes: &[u8]) -> bool {
     }
 }
 
-pub fn frame(mut ask: Arguments<'_>, answer: &mut Answer) -> Result<(), Refusal> {
+pub fn frame<const N: usize>(mut ask: Arguments<'_>, answer: &mut Text<N>) -> Result<(), Refusal> {
     let mut bytes = Bytes::new();
     ask.bytes(&mut bytes);
     read(bytes.as_bytes(), answer)
@@ -79,7 +80,10 @@ fn listed(ask: &mut Arguments<'_>) -> Listing {
 }
 
 // By the writer of plain fields.
-pub fn frame_write(mut ask: Arguments<'_>, answer: &mut Answer) -> Result<(), Refusal> {
+pub fn frame_write<const N: usize>(
+    mut ask: Arguments<'_>,
+    answer: &mut Text<N>,
+) -> Result<(), Refusal> {
     let Listing {
         device,
         command,
@@ -93,7 +97,10 @@ pub fn frame_write(mut ask: Arguments<'_>, answer: &mut Answer) -> Result<(), Re
 }
 
 // By the writer of messages, to the front of a buffer with room for every frame; what was written is read.
-pub fn read_back(mut ask: Arguments<'_>, answer: &mut Answer) -> Result<(), Refusal> {
+pub fn read_back<const N: usize>(
+    mut ask: Arguments<'_>,
+    answer: &mut Text<N>,
+) -> Result<(), Refusal> {
     let Listing {
         device,
         command,

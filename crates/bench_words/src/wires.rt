@@ -1,27 +1,33 @@
 // Packed runs, channel messages and identity: the words of bytes.
-use crate::Answer;
 use crate::arguments::{Arguments, Bytes};
 use crate::said::{ok, wrote};
 use inquiry::{Identity, Version};
 use refusal::{OfByte, Refusal};
+use text::Text;
 use wire::{Channel, ChannelMessage};
 
 // A length is cast, since no From leads from u64 to usize.
-pub fn packed_len(mut ask: Arguments<'_>, answer: &mut Answer) -> Result<(), Refusal> {
+pub fn packed_len<const N: usize>(
+    mut ask: Arguments<'_>,
+    answer: &mut Text<N>,
+) -> Result<(), Refusal> {
     ok(answer, packed::packed_len(ask.number() as usize)?);
     Ok(())
 }
 
 // A length is cast, since no From leads from u64 to usize.
-pub fn unpacked_len(mut ask: Arguments<'_>, answer: &mut Answer) -> Result<(), Refusal> {
+pub fn unpacked_len<const N: usize>(
+    mut ask: Arguments<'_>,
+    answer: &mut Text<N>,
+) -> Result<(), Refusal> {
     ok(answer, packed::unpacked_len(ask.number() as usize)?);
     Ok(())
 }
 
 // What a writer answers that is lent the bytes that stand next.
-pub fn written<F: FnOnce(&mut [u8]) -> Result<usize, Refusal>>(
+pub fn written<F: FnOnce(&mut [u8]) -> Result<usize, Refusal>, const N: usize>(
     mut ask: Arguments<'_>,
-    answer: &mut Answer,
+    answer: &mut Text<N>,
     write: F,
 ) -> Result<(), Refusal>
     requires { F.IsAlwaysCallable write }
@@ -34,9 +40,9 @@ pub fn written<F: FnOnce(&mut [u8]) -> Result<usize, Refusal>>(
 }
 
 // What a writer makes of bytes.
-pub fn turned<F: FnOnce(&[u8], &mut [u8]) -> Result<usize, Refusal>>(
+pub fn turned<F: FnOnce(&[u8], &mut [u8]) -> Result<usize, Refusal>, const N: usize>(
     mut ask: Arguments<'_>,
-    answer: &mut Answer,
+    answer: &mut Text<N>,
     write: F,
 ) -> Result<(), Refusal>
     requires { F.IsAlwaysCallable write }
@@ -48,7 +54,10 @@ pub fn turned<F: FnOnce(&[u8], &mut [u8]) -> Result<usize, Refusal>>(
 
 // The message of a nibble and its data, on a channel. The first number is a bend's value, and a nibble of no other message makes a bend. The value
 // is cast, since From does not narrow.
-pub fn channel_message(mut ask: Arguments<'_>, answer: &mut Answer) -> Result<(), Refusal> {
+pub fn channel_message<const N: usize>(
+    mut ask: Arguments<'_>,
+    answer: &mut Text<N>,
+) -> Result<(), Refusal> {
     let nibble = ask.byte();
     let channel = Channel(ask.byte());
     let value = (ask.number() % 65536) as u16;
@@ -58,7 +67,10 @@ pub fn channel_message(mut ask: Arguments<'_>, answer: &mut Answer) -> Result<()
     written(ask, answer, |lent| message.encode_into(channel, lent))
 }
 
-pub fn inquiry_request(mut ask: Arguments<'_>, answer: &mut Answer) -> Result<(), Refusal> {
+pub fn inquiry_request<const N: usize>(
+    mut ask: Arguments<'_>,
+    answer: &mut Text<N>,
+) -> Result<(), Refusal> {
     let mut bytes = Bytes::new();
     ask.bytes(&mut bytes);
     let device = inquiry::request::parse_request(bytes.as_bytes())?;
@@ -66,7 +78,10 @@ pub fn inquiry_request(mut ask: Arguments<'_>, answer: &mut Answer) -> Result<()
     Ok(())
 }
 
-pub fn inquiry_reply(mut ask: Arguments<'_>, answer: &mut Answer) -> Result<(), Refusal> {
+pub fn inquiry_reply<const N: usize>(
+    mut ask: Arguments<'_>,
+    answer: &mut Text<N>,
+) -> Result<(), Refusal> {
     let mut bytes = Bytes::new();
     ask.bytes(&mut bytes);
     let Identity {
@@ -86,7 +101,10 @@ pub fn inquiry_reply(mut ask: Arguments<'_>, answer: &mut Answer) -> Result<(), 
     Ok(())
 }
 
-pub fn write_request(mut ask: Arguments<'_>, answer: &mut Answer) -> Result<(), Refusal> {
+pub fn write_request<const N: usize>(
+    mut ask: Arguments<'_>,
+    answer: &mut Text<N>,
+) -> Result<(), Refusal> {
     let device = ask.device();
     written(
         ask,
@@ -95,7 +113,10 @@ pub fn write_request(mut ask: Arguments<'_>, answer: &mut Answer) -> Result<(), 
     )
 }
 
-pub fn write_reply(mut ask: Arguments<'_>, answer: &mut Answer) -> Result<(), Refusal> {
+pub fn write_reply<const N: usize>(
+    mut ask: Arguments<'_>,
+    answer: &mut Text<N>,
+) -> Result<(), Refusal> {
     let device = ask.device();
     let firmware = version(&mut ask);
     let voice = version(&mut ask);

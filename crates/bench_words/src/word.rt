@@ -1,10 +1,11 @@
 // The bench's words.
 use crate::arguments::Arguments;
 use crate::said::{ok, ok_or_none};
-use crate::{Answer, streams, sysex, wires};
+use crate::{streams, sysex, wires};
 use command::Command;
 use ids::{Bank, DeviceId, Interface, PatternNumber, ProgramNumber, ProtocolVersion};
 use refusal::{OfByte, Refusal};
+use text::Text;
 use wire::{Channel, ChannelMessage, Realtime};
 
 // A word that begins a request.
@@ -106,16 +107,20 @@ impl Word {
     }
 
     // What the word says to its arguments.
-    pub(crate) fn answer(self, ask: Arguments<'_>, answer: &mut Answer) -> Result<(), Refusal> {
+    pub(crate) fn answer<const N: usize>(
+        self,
+        ask: Arguments<'_>,
+        answer: &mut Text<N>,
+    ) -> Result<(), Refusal> {
         match self {
-            Word::Bank => small::<Bank>(ask, answer),
-            Word::Program => small::<ProgramNumber>(ask, answer),
-            Word::Pattern => small::<PatternNumber>(ask, answer),
-            Word::Version => small::<ProtocolVersion>(ask, answer),
-            Word::Device => small::<DeviceId>(ask, answer),
-            Word::Channel => small::<Channel>(ask, answer),
-            Word::Interface => small::<Interface>(ask, answer),
-            Word::Command => small::<Command>(ask, answer),
+            Word::Bank => small::<Bank, N>(ask, answer),
+            Word::Program => small::<ProgramNumber, N>(ask, answer),
+            Word::Pattern => small::<PatternNumber, N>(ask, answer),
+            Word::Version => small::<ProtocolVersion, N>(ask, answer),
+            Word::Device => small::<DeviceId, N>(ask, answer),
+            Word::Channel => small::<Channel, N>(ask, answer),
+            Word::Interface => small::<Interface, N>(ask, answer),
+            Word::Command => small::<Command, N>(ask, answer),
             Word::RawLen => raw_len(ask, answer),
             Word::DataLen => data_len(ask, answer),
             Word::Realtime => realtime(ask, answer),
@@ -138,12 +143,15 @@ impl Word {
 }
 
 // A byte read as a small number or a name, and written back.
-fn small<T: OfByte>(mut ask: Arguments<'_>, answer: &mut Answer) -> Result<(), Refusal> {
+fn small<T: OfByte, const N: usize>(
+    mut ask: Arguments<'_>,
+    answer: &mut Text<N>,
+) -> Result<(), Refusal> {
     ok(answer, T::from_byte(ask.byte())?.to_byte());
     Ok(())
 }
 
-fn raw_len(mut ask: Arguments<'_>, answer: &mut Answer) -> Result<(), Refusal> {
+fn raw_len<const N: usize>(mut ask: Arguments<'_>, answer: &mut Text<N>) -> Result<(), Refusal> {
     ok(
         answer,
         ProtocolVersion::from_byte(ask.byte())?.program_data_len(),
@@ -151,12 +159,12 @@ fn raw_len(mut ask: Arguments<'_>, answer: &mut Answer) -> Result<(), Refusal> {
     Ok(())
 }
 
-fn data_len(mut ask: Arguments<'_>, answer: &mut Answer) -> Result<(), Refusal> {
+fn data_len<const N: usize>(mut ask: Arguments<'_>, answer: &mut Text<N>) -> Result<(), Refusal> {
     ok_or_none(answer, ChannelMessage::data_len_for(ask.byte()));
     Ok(())
 }
 
-fn realtime(mut ask: Arguments<'_>, answer: &mut Answer) -> Result<(), Refusal> {
+fn realtime<const N: usize>(mut ask: Arguments<'_>, answer: &mut Text<N>) -> Result<(), Refusal> {
     ok_or_none(
         answer,
         Realtime::from_status(ask.byte()).map(|message| message.to_status()),

@@ -3,4 +3,4 @@ use Rattle.std.proofs.Common.{length}
 use Rattle.bench_words.proofs.streams.Stream.take.Given as goal
 
 abbrev pub decreases-loop-taken : goal.decreases-loop-taken
-decreases-loop-taken l = length l.rest
+decreases-loop-taken g l = length l.rest
