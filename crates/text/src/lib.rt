@@ -1,8 +1,8 @@
 // Bytes, refusals and failures as text, for the programs on a host.
 #![tactic(auto)]
 
-ghost use Rattle.std.specs.Prelude.{◌≡◌, [], ◌∷◌, ◌++◌, take};
-ghost use Rattle.text.specs.Text.{shown};
+ghost use Rattle.std.specs.Prelude.{◌≡◌, [], ◌∷◌, ◌++◌, ◌-◌, ◌/◌, ◌%◌, ◌≤◌, take, replicate};
+ghost use Rattle.text.specs.Text.{shown, hex_digit};
 
 pub mod failures;
 pub mod refusals;
@@ -83,14 +83,18 @@ impl<const N: usize> Text<N> {
     }
 
     // A byte as two hexadecimal digits.
-    pub fn put_hex(&mut self, byte: u8) {
-        self.put_byte(hex_digit(byte >> 4));
-        self.put_byte(hex_digit(byte & 0xF));
+    #[tactic(auto, using(crate::proofs::Room::room_again))]
+    pub fn put_hex(&mut self, byte: u8)
+        ensures { shown self.new ≡ take N (shown self.old ++ hex_digit (byte / 16) ∷ hex_digit (byte % 16) ∷ []) }
+    {
+        self.put_bytes(&[hex_digit(byte / 16), hex_digit(byte % 16)]);
     }
 
     // Spaces up to a column.
-    pub fn pad(&mut self, column: usize) {
-        for _ in self.len..column {
+    pub fn pad(&mut self, column: usize)
+        ensures { shown self.new ≡ take N (shown self.old ++ replicate (column - self.old.len) 32) }
+    {
+        for _ in 0..column.saturating_sub(self.len) {
             self.put_byte(b' ');
         }
     }
@@ -102,6 +106,8 @@ impl<const N: usize> Text<N> {
 }
 
 impl<const N: usize> fmt::Write for Text<N> {
+    ghost write_str_gives = { λ t bytes later. shown later ≡ take N (shown t ++ bytes) };
+
     fn write_str(&mut self, words: &str) -> fmt::Result {
         self.put_str(words);
         Ok(())
@@ -109,12 +115,11 @@ impl<const N: usize> fmt::Write for Text<N> {
 }
 
 // The digit of a number below 16.
-fn hex_digit(n: u8) -> u8 {
-    if n < 10 {
-        b'0' + n
-    } else {
-        b'a' + (n & 0xF) - 10
-    }
+fn hex_digit(n: u8) -> u8
+    requires { n ≤ 15 }
+    ensures { result ≡ hex_digit n }
+{
+    if n < 10 { b'0' + n } else { b'a' + n - 10 }
 }
 
 // Bytes as two hexadecimal digits each, and behind each byte the same text.
