@@ -2,7 +2,7 @@
 #![tactic(auto)]
 
 ghost use Rattle.std.specs.Prelude.{◌≡◌, [], ◌∷◌, ◌++◌, ◌-◌, ◌/◌, ◌%◌, ◌≤◌, take, replicate};
-ghost use Rattle.text.specs.Text.{shown, hex_digit};
+ghost use Rattle.text.specs.Text.{shown, hex_digit, PutsDecimal};
 
 pub mod failures;
 pub mod refusals;
@@ -76,7 +76,9 @@ impl<const N: usize> Text<N> {
     }
 
     // A number in decimal digits.
-    pub fn put_decimal(&mut self, n: u64) {
+    pub fn put_decimal(&mut self, n: u64)
+        ensures { PutsDecimal N n (shown self.old) (shown self.new) }
+    {
         let mut digits = [0; 20];
         let count = io::decimal(n, &mut digits);
         self.put_bytes(&digits[..count]);
