@@ -1,12 +1,10 @@
 // A request taken apart: words stand between single spaces, numbers are decimal, bytes are plain hexadecimal, `-` for none.
+ghost use Rattle.std.specs.Prelude.{◌≤◌, length};
+
 use ids::DeviceId;
-use text::Text;
 
 // So many bytes are read of one word at most.
 pub const MOST_BYTES: usize = 4096;
-
-// The bytes of a word.
-pub type Bytes = Text<MOST_BYTES>;
 
 // Numbers with commas between them, from the first again behind the last.
 #[derive(Clone, Copy)]
@@ -53,16 +51,21 @@ impl<'a> Arguments<'a> {
         }
     }
 
-    // Leaves the bytes alone in a room, which is lent, so that no copy of it stands on the stack.
-    pub fn bytes(&mut self, bytes: &mut Bytes) {
+    // The bytes, put to the front of a room; what has no room is left out.
+    pub fn bytes<'b>(&mut self, room: &'b mut [u8]) -> &'b mut [u8]
+        ensures { length result.now ≤ length room.old }
+    {
         let (pairs, _) = self.front().as_chunks::<2>();
-        bytes.clear();
+        let mut count = 0;
         for pair in pairs {
             match paired(*pair) {
-                Some(byte) => bytes.put_byte(byte),
-                None => break,
+                Some(byte) if count < room.len() => room[count] = byte,
+                _ => break,
             }
+            count += 1;
         }
+        let end = count.min(room.len());
+        &mut room[..end]
     }
 
     pub fn numbers(&mut self) -> Numbers<'a> {

@@ -1,5 +1,5 @@
 // The words of the decoder, from a fresh one each time.
-use crate::arguments::{Arguments, Bytes};
+use crate::arguments::{Arguments, MOST_BYTES};
 use decoder::{Decoder, MAX_SYSEX_LEN, Report};
 use decoder_in_place::Taken;
 use refusal::{OfByte, Refusal};
@@ -133,11 +133,11 @@ fn end<const N: usize>(answer: &mut Text<N>, all_used: bool) {
 }
 
 pub fn feed<const N: usize>(mut ask: Arguments<'_>, answer: &mut Text<N>) -> Result<(), Refusal> {
-    let mut bytes = Bytes::new();
-    ask.bytes(&mut bytes);
+    let mut room = [0; MOST_BYTES];
+    let bytes = ask.bytes(&mut room);
     let mut stream = Stream::new(Some(0));
     answer.put_str("ok");
-    let all_used = stream.take(bytes.as_bytes(), answer);
+    let all_used = stream.take(bytes, answer);
     end(answer, all_used);
     write!(answer, " open={}", u8::from(stream.state.in_sysex));
     Ok(())
@@ -147,11 +147,11 @@ pub fn feed<const N: usize>(mut ask: Arguments<'_>, answer: &mut Text<N>) -> Res
 // usize.
 pub fn chunks<const N: usize>(mut ask: Arguments<'_>, answer: &mut Text<N>) -> Result<(), Refusal> {
     let mut sizes = ask.numbers();
-    let mut bytes = Bytes::new();
-    ask.bytes(&mut bytes);
+    let mut room = [0; MOST_BYTES];
+    let bytes = ask.bytes(&mut room);
     let mut stream = Stream::new(None);
     let mut all_used = true;
-    let mut rest = bytes.as_bytes();
+    let mut rest: &[u8] = bytes;
     answer.put_str("ok");
     for _ in 0..65536 {
         if rest.is_empty() {

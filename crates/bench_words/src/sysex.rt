@@ -1,5 +1,5 @@
 // The words of frames.
-use crate::arguments::{Arguments, Bytes, MOST_BYTES};
+use crate::arguments::{Arguments, MOST_BYTES};
 use crate::said::Listed;
 use crate::wires;
 use ids::DeviceId;
@@ -44,9 +44,9 @@ fn stays(bytes: &[u8]) -> bool {
 }
 
 pub fn frame<const N: usize>(mut ask: Arguments<'_>, answer: &mut Text<N>) -> Result<(), Refusal> {
-    let mut bytes = Bytes::new();
-    ask.bytes(&mut bytes);
-    read(bytes.as_bytes(), answer)
+    let mut room = [0; MOST_BYTES];
+    let bytes = ask.bytes(&mut room);
+    read(bytes, answer)
 }
 
 // A record as the words `fwrite` and `readback` list it; its run stands behind it.
@@ -89,10 +89,10 @@ pub fn frame_write<const N: usize>(
         command,
         fields,
     } = listed(&mut ask);
-    let mut run = Bytes::new();
-    ask.bytes(&mut run);
+    let mut room = [0; MOST_BYTES];
+    let run = ask.bytes(&mut room);
     wires::written(ask, answer, |lent| {
-        frame_writer::write_record(device, command, fields, run.as_bytes(), lent)
+        frame_writer::write_record(device, command, fields, run, lent)
     })
 }
 
@@ -101,15 +101,11 @@ pub fn read_back<const N: usize>(
     mut ask: Arguments<'_>,
     answer: &mut Text<N>,
 ) -> Result<(), Refusal> {
-    let Listing {
-        device,
-        command,
-        fields,
-    } = listed(&mut ask);
-    let mut run = Bytes::new();
-    ask.bytes(&mut run);
+    let record = listed(&mut ask);
+    let mut room = [0; MOST_BYTES];
+    let run = ask.bytes(&mut room);
     let mut space = [0u8; MOST_BYTES];
-    let frame = message::head::from_record(device, command, fields)?;
-    let count = frame_writer::encode_into(frame, run.as_bytes(), &mut space)?;
+    let frame = message::head::from_record(record.device, record.command, record.fields)?;
+    let count = frame_writer::encode_into(frame, run, &mut space)?;
     read(text::front(&space, count), answer)
 }

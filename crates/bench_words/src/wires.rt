@@ -1,26 +1,20 @@
 // Packed runs, channel messages and identity: the words of bytes.
-use crate::arguments::{Arguments, Bytes};
+use crate::arguments::{Arguments, MOST_BYTES};
 use crate::said::{ok, wrote};
 use inquiry::{Identity, Version};
 use refusal::{OfByte, Refusal};
 use text::Text;
 use wire::{Channel, ChannelMessage};
 
-// A length is cast, since no From leads from u64 to usize.
-pub fn packed_len<const N: usize>(
+// A length made of a length. It is cast, since no From leads from u64 to usize.
+pub fn length<F: FnOnce(usize) -> Result<usize, Refusal>, const N: usize>(
     mut ask: Arguments<'_>,
     answer: &mut Text<N>,
-) -> Result<(), Refusal> {
-    ok(answer, packed::packed_len(ask.number() as usize)?);
-    Ok(())
-}
-
-// A length is cast, since no From leads from u64 to usize.
-pub fn unpacked_len<const N: usize>(
-    mut ask: Arguments<'_>,
-    answer: &mut Text<N>,
-) -> Result<(), Refusal> {
-    ok(answer, packed::unpacked_len(ask.number() as usize)?);
+    of: F,
+) -> Result<(), Refusal>
+    requires { F.IsAlwaysCallable of }
+{
+    ok(answer, of(ask.number() as usize)?);
     Ok(())
 }
 
@@ -32,10 +26,10 @@ pub fn written<F: FnOnce(&mut [u8]) -> Result<usize, Refusal>, const N: usize>(
 ) -> Result<(), Refusal>
     requires { F.IsAlwaysCallable write }
 {
-    let mut lent = Bytes::new();
-    ask.bytes(&mut lent);
-    let count = write(lent.as_mut_bytes());
-    wrote(answer, count, lent.as_bytes());
+    let mut room = [0; MOST_BYTES];
+    let lent = ask.bytes(&mut room);
+    let count = write(lent);
+    wrote(answer, count, lent);
     Ok(())
 }
 
@@ -47,9 +41,9 @@ pub fn turned<F: FnOnce(&[u8], &mut [u8]) -> Result<usize, Refusal>, const N: us
 ) -> Result<(), Refusal>
     requires { F.IsAlwaysCallable write }
 {
-    let mut bytes = Bytes::new();
-    ask.bytes(&mut bytes);
-    written(ask, answer, |lent| write(bytes.as_bytes(), lent))
+    let mut room = [0; MOST_BYTES];
+    let bytes = ask.bytes(&mut room);
+    written(ask, answer, |lent| write(bytes, lent))
 }
 
 // The message of a nibble and its data, on a channel. The first number is a bend's value, and a nibble of no other message makes a bend. The value
@@ -71,9 +65,9 @@ pub fn inquiry_request<const N: usize>(
     mut ask: Arguments<'_>,
     answer: &mut Text<N>,
 ) -> Result<(), Refusal> {
-    let mut bytes = Bytes::new();
-    ask.bytes(&mut bytes);
-    let device = inquiry::request::parse_request(bytes.as_bytes())?;
+    let mut room = [0; MOST_BYTES];
+    let bytes = ask.bytes(&mut room);
+    let device = inquiry::request::parse_request(bytes)?;
     ok(answer, device.to_byte());
     Ok(())
 }
@@ -82,13 +76,13 @@ pub fn inquiry_reply<const N: usize>(
     mut ask: Arguments<'_>,
     answer: &mut Text<N>,
 ) -> Result<(), Refusal> {
-    let mut bytes = Bytes::new();
-    ask.bytes(&mut bytes);
+    let mut room = [0; MOST_BYTES];
+    let bytes = ask.bytes(&mut room);
     let Identity {
         device,
         firmware,
         voice,
-    } = inquiry::reply::parse_reply(bytes.as_bytes())?;
+    } = inquiry::reply::parse_reply(bytes)?;
     write!(
         answer,
         "ok dev={} fw={}.{} voice={},{}",

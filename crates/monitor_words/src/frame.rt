@@ -21,7 +21,7 @@ pub fn put_words(line: &mut Line, bytes: &[u8]) {
 
 // The number, the trade's word and the details.
 fn put_refused(line: &mut Line, refusal: Refusal) {
-    put_labelled(line, "refused: ", u64::from(refusal.number()));
+    put_labelled(line, "refused: ", refusal.number());
     line.put_byte(b' ');
     line.put_str(word(refusal));
     for detail in refusal.details() {
@@ -33,7 +33,7 @@ fn put_refused(line: &mut Line, refusal: Refusal) {
 
 fn put_device(line: &mut Line, device: DeviceId) {
     match device {
-        DeviceId::Unit(unit) => put_labelled(line, "unit ", u64::from(unit)),
+        DeviceId::Unit(unit) => put_labelled(line, "unit ", unit),
         DeviceId::Broadcast => line.put_str("everyone"),
     }
 }
@@ -45,7 +45,7 @@ fn put_frame(line: &mut Line, frame: FrameHead, run_len: usize) {
     let version = head.version();
     line.put_str(command_name(head.command()));
     if let Some(version) = version {
-        put_labelled(line, ", version ", u64::from(version.to_byte()));
+        put_labelled(line, ", version ", version.to_byte());
     }
     line.put_str(", to ");
     put_device(line, frame.device);
@@ -83,37 +83,33 @@ fn command_name(command: Command) -> &'static str {
     }
 }
 
-fn put_byte(line: &mut Line, label: &str, byte: u8) {
-    put_labelled(line, label, u64::from(byte));
-}
-
 // A bank and a program of it, each behind a comma.
 fn put_in_bank(line: &mut Line, bank: Bank, program: ProgramNumber) {
-    put_byte(line, ", bank ", bank.to_byte());
-    put_byte(line, ", program ", program.to_byte());
+    put_labelled(line, ", bank ", bank.to_byte());
+    put_labelled(line, ", program ", program.to_byte());
 }
 
 // A message's fields but for the version, each behind a comma.
 fn put_fields(line: &mut Line, head: Head) {
     match head {
-        Head::ControlAppNotifyRequest { reserved } => put_byte(line, ", free byte ", reserved),
+        Head::ControlAppNotifyRequest { reserved } => put_labelled(line, ", free byte ", reserved),
         Head::ProgramDumpRequest { bank, program }
         | Head::SingleProgramNameDumpRequest { bank, program }
         | Head::ProgramDumpResponse { bank, program, .. } => put_in_bank(line, bank, program),
         Head::ProgramBankDumpRequest { bank, first, last } => {
             put_in_bank(line, bank, first);
-            put_byte(line, " to ", last.to_byte());
+            put_labelled(line, " to ", last.to_byte());
         }
         Head::BankProgramNamesDumpRequest { bank }
         | Head::BankProgramNamesDumpResponse { bank, .. }
         | Head::SingleProgramNameDumpResponse { bank, .. } => {
-            put_byte(line, ", bank ", bank.to_byte());
+            put_labelled(line, ", bank ", bank.to_byte());
         }
         Head::SingleUserPatternDumpRequest { pattern }
         | Head::UserPatternDumpResponse {
             pattern: Some(pattern),
             ..
-        } => put_byte(line, ", pattern ", pattern.to_byte()),
+        } => put_labelled(line, ", pattern ", pattern.to_byte()),
         Head::ControlAppNotifyResponse {
             rx_channel,
             tx_channel,
@@ -122,9 +118,9 @@ fn put_fields(line: &mut Line, head: Head) {
             program,
         } => {
             put_in_bank(line, bank, program);
-            put_byte(line, ", receives on ", rx_channel);
-            put_byte(line, ", sends on ", tx_channel);
-            put_byte(line, ", interface ", interface.to_byte());
+            put_labelled(line, ", receives on ", rx_channel);
+            put_labelled(line, ", sends on ", tx_channel);
+            put_labelled(line, ", interface ", interface.to_byte());
         }
         _ => (),
     }
@@ -154,6 +150,6 @@ fn put_identity(line: &mut Line, identity: Identity) {
 
 // A version with a dot between its numbers.
 fn put_version(line: &mut Line, label: &str, version: Version) {
-    put_byte(line, label, version.major);
-    put_byte(line, ".", version.minor);
+    put_labelled(line, label, version.major);
+    put_labelled(line, ".", version.minor);
 }

@@ -17,9 +17,9 @@ const WORDS_COLUMN: usize = 42;
 pub type Line = Text<256>;
 
 // A label and a number.
-fn put_labelled(line: &mut Line, label: &str, n: u64) {
+fn put_labelled(line: &mut Line, label: &str, number: impl Into<u64> + Drop) {
     line.put_str(label);
-    line.put_decimal(n);
+    line.put_decimal(number.into());
 }
 
 // Bytes in hexadecimal, with a space behind each.
@@ -31,7 +31,7 @@ fn put_spaced(line: &mut Line, bytes: &[u8]) {
 }
 
 // A message's bytes: up to ten whole, of more the first eight and the last.
-fn put_message(line: &mut Line, bytes: &[u8]) {
+fn put_message_bytes(line: &mut Line, bytes: &[u8]) {
     match bytes.last() {
         Some(last) if 10 < bytes.len() => {
             put_spaced(line, text::front(bytes, 8));
@@ -70,8 +70,8 @@ pub fn line(place: u64, store: &[u8], report: Report) -> Line {
     line.put_decimal(place);
     line.pad(PLACE_WIDTH);
     match report {
-        Report::SysEx(len) => put_message(&mut line, text::front(store, len)),
-        _ => put_message(&mut line, short::encode(report, &mut room)),
+        Report::SysEx(len) => put_message_bytes(&mut line, text::front(store, len)),
+        _ => put_message_bytes(&mut line, short::encode(report, &mut room)),
     }
     line.pad(WORDS_COLUMN);
     put_words(&mut line, store, report);

@@ -42,15 +42,16 @@ fn name(message: ChannelMessage) -> &'static str {
     }
 }
 
+// Both data bytes, each behind its label.
 fn put_two(line: &mut Line, label: &str, first: u8, then: &str, second: u8) {
-    put_labelled(line, label, u64::from(first));
-    put_labelled(line, then, u64::from(second));
+    put_labelled(line, label, first);
+    put_labelled(line, then, second);
 }
 
 // A channel message, its channel and its data.
 pub fn put_channel(line: &mut Line, channel: Channel, message: ChannelMessage) {
     line.put_str(name(message));
-    put_labelled(line, ", channel ", u64::from(channel.number()));
+    put_labelled(line, ", channel ", channel.number());
     match message {
         ChannelMessage::NoteOff { key, velocity } => {
             put_two(line, ", key ", key, ", velocity ", velocity);
@@ -69,24 +70,24 @@ pub fn put_channel(line: &mut Line, channel: Channel, message: ChannelMessage) {
             put_two(line, ", controller ", controller, ", value ", value);
         }
         ChannelMessage::ProgramChange { program } => {
-            put_labelled(line, ", program ", u64::from(program));
+            put_labelled(line, ", program ", program);
         }
         ChannelMessage::ChannelPressure { pressure } => {
-            put_labelled(line, ", pressure ", u64::from(pressure));
+            put_labelled(line, ", pressure ", pressure);
         }
-        ChannelMessage::PitchBend { value } => put_labelled(line, ", value ", u64::from(value)),
+        ChannelMessage::PitchBend { value } => put_labelled(line, ", value ", value),
     }
 }
 
 pub fn put_common(line: &mut Line, message: SystemCommon) {
     match message {
         SystemCommon::TimeCodeQuarterFrame(value) => {
-            put_labelled(line, "time code quarter frame ", u64::from(value));
+            put_labelled(line, "time code quarter frame ", value);
         }
         SystemCommon::SongPosition(value) => {
-            put_labelled(line, "song position ", u64::from(value));
+            put_labelled(line, "song position ", value);
         }
-        SystemCommon::SongSelect(value) => put_labelled(line, "song select ", u64::from(value)),
+        SystemCommon::SongSelect(value) => put_labelled(line, "song select ", value),
         SystemCommon::TuneRequest => line.put_str("tune request"),
     }
 }

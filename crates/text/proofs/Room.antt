@@ -9,6 +9,8 @@ room_again (suc n) [] ys = refl
 room_again (suc n) (x ∷ xs) ys = ap (λ (zs : List ℕ). x ∷ zs) (room_again n xs ys)
 
 -- one byte more of the bytes
-pub one_more : (n i : ℕ) (before bytes : List ℕ) → i < length bytes
+pub byte_more : (n i : ℕ) (before bytes : List ℕ) → i < length bytes
     → take n (take n (before ++ take i bytes) ++ get_or bytes i 0 ∷ []) ≡ take n (before ++ take (i + 1) bytes)
-one_more n i before bytes few = rw (add-one i, take-suc bytes i 0 few) (room_again n (before ++ take i bytes) (get_or bytes i 0 ∷ []) ∙ ap (λ (zs : List ℕ). take n zs) (append_assoc before (take i bytes) (get_or bytes i 0 ∷ [])))
+byte_more n i before bytes few =
+    let next : List ℕ = get_or bytes i 0 ∷ [] in
+    rw (add-one i, take-suc bytes i 0 few) (room_again n (before ++ take i bytes) next ∙ ap (λ (zs : List ℕ). take n zs) (append_assoc before (take i bytes) next))

@@ -1,16 +1,11 @@
 -- Text in a room of its own.
-use Rattle.std.specs.Prelude.{◌≡◌, List, ℕ, ◌+◌, ◌++◌, take, ltb}
+use Rattle.std.specs.Prelude.{◌≡◌, List, ℕ, ◌++◌, take}
 use Rattle.io.specs.Digits.{last_digits, IsDigitCount}
-use Rattle.laws.specs.Choice.{pick}
 use Rattle.text.specs.declared.Text.{Text}
 
 -- what stands in the room: its first bytes, as many as its length says
 abbrev pub shown : {n : ℕ} → Text n → List ℕ
 shown t = take t.len t.room
-
--- the digit of a number below sixteen: 0 to 9, and then a to f
-abbrev pub hex_digit : ℕ → ℕ
-hex_digit n = pick (ltb n 10) (48 + n) (87 + n)
 
 -- a number's decimal digits, as many as it has, stand behind what was shown, as many as have room
 pub record PutsDecimal (room n : ℕ) (before after : List ℕ) : Type 0 where

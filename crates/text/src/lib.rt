@@ -1,15 +1,16 @@
 // Bytes, refusals and failures as text, for the programs on a host.
 #![tactic(auto)]
 
-ghost use Rattle.std.specs.Prelude.{◌≡◌, [], ◌∷◌, ◌++◌, ◌-◌, ◌/◌, ◌%◌, ◌≤◌, take, replicate};
-ghost use Rattle.text.specs.Text.{shown, hex_digit, PutsDecimal};
+ghost use Rattle.std.specs.Prelude.{◌≡◌, [], ◌∷◌, ◌++◌, ◌-◌, ◌/◌, ◌%◌, ◌≤◌, length, take, replicate};
+ghost use Rattle.io.specs.Digits.{hex_digit_ascii};
+ghost use Rattle.text.specs.Text.{shown, PutsDecimal};
 
 pub mod failures;
 pub mod refusals;
 
 use std::fmt;
 
-// Text, or any bytes, in a room of its own. What has no room is left out, so that no call here fails or needs memory.
+// Text in a room of its own. What has no room is left out, so that no call here fails or needs memory.
 #[derive(Clone, Copy)]
 pub struct Text<const N: usize> {
     room: [u8; N],
@@ -32,14 +33,6 @@ impl<const N: usize> Text<N> {
         ensures { result.now ≡ shown self.now }
     {
         front(&self.room, self.len)
-    }
-
-    pub fn as_mut_bytes(&mut self) -> &mut [u8]
-        ensures { result.now ≡ shown self.old }
-    {
-        let len = self.len.min(N);
-        let room = &mut self.room[..];
-        &mut room[..len]
     }
 
     pub fn clear(&mut self)
@@ -87,16 +80,16 @@ impl<const N: usize> Text<N> {
     // A byte as two hexadecimal digits.
     #[tactic(auto, using(crate::proofs::Room::room_again))]
     pub fn put_hex(&mut self, byte: u8)
-        ensures { shown self.new ≡ take N (shown self.old ++ hex_digit (byte / 16) ∷ hex_digit (byte % 16) ∷ []) }
+        ensures { shown self.new ≡ take N (shown self.old ++ hex_digit_ascii (byte / 16) ∷ hex_digit_ascii (byte % 16) ∷ []) }
     {
         self.put_bytes(&[hex_digit(byte / 16), hex_digit(byte % 16)]);
     }
 
     // Spaces up to a column.
     pub fn pad(&mut self, column: usize)
-        ensures { shown self.new ≡ take N (shown self.old ++ replicate (column - self.old.len) 32) }
+        ensures { shown self.new ≡ take N (shown self.old ++ replicate (column - length (shown self.old)) 32) }
     {
-        for _ in 0..column.saturating_sub(self.len) {
+        for _ in 0..column.saturating_sub(self.as_bytes().len()) {
             self.put_byte(b' ');
         }
     }
@@ -119,7 +112,7 @@ impl<const N: usize> fmt::Write for Text<N> {
 // The digit of a number below 16.
 fn hex_digit(n: u8) -> u8
     requires { n ≤ 15 }
-    ensures { result ≡ hex_digit n }
+    ensures { result ≡ hex_digit_ascii n }
 {
     if n < 10 { b'0' + n } else { b'a' + n - 10 }
 }
